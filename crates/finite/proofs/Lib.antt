@@ -1,0 +1,4 @@
+pub mod Counts
+pub mod Members
+pub mod Pairs
+pub mod Rising

@@ -1,0 +1,3 @@
+pub mod Graph
+pub mod Edges
+pub mod Refusals
