@@ -6,7 +6,9 @@ use Prim.Native.Nat.{ℕ, _+_, _-_, _<_, _≤_}
 use lib.Dec.{leb, ltb, eqb}
 use lib.ListN.{length, getD}
 use Rattle.finite.specs.Finite.{any}
-use Rattle.graph.specs.Graph.{Graph}
+use Rattle.graph.specs.Graph.{Graph, clash}
+use Rattle.graph.specs.Edges.{graph-of}
+use Rattle.graph.specs.declared.edge.Edge.{Edge}
 use Rattle.graph.specs.declared.refusal.Part.the-variants.{Offsets, Neighbours}
 use Rattle.graph.specs.declared.refusal.Part.{Part}
 use Rattle.graph.specs.declared.refusal.Refusal.{Refusal}
@@ -108,6 +110,12 @@ Fault os ns = Form-fault (big os ns ≡ true) (First-bad os ns) (Sound os ns)
 -- the graph: all numbers below the number of rows are vertices, and a and b are joined where b stands in row a
 abbrev pub listed : List ℕ → List ℕ → Graph
 listed os ns = record { size = rows os; listed = λ c. true; joined = in-row os ns }
+
+-- the lists are the list form of the graph with n vertices and these edges
+pub record Lists (n : ℕ) (es : List Edge) (os ns : List ℕ) : Type 0 where
+  pub sound : Sound os ns
+  pub size : rows os ≡ n
+  pub same : (a b : ℕ) → clash (listed os ns) a b ≡ clash (graph-of n es) a b
 
 -- each place is in a row, so that nothing is left unlooked at
 abbrev pub Covered : Type 0
