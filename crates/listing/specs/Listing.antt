@@ -6,7 +6,8 @@ use Prim.Native.Nat.{ℕ, zero, suc, _+_, _<_, _≤_}
 use lib.Dec.{eqb}
 use lib.ListN.{length, getD, take}
 use Rattle.graph.specs.declared.edge.Edge.{Edge}
-use Rattle.graph.specs.Edges.{Good}
+use Rattle.std.specs.declared.option.Option.the-variants.{None}
+use Rattle.graph.specs.Edges.{Good, Rising}
 use Rattle.rows.specs.Rows.{Lists}
 
 -- how many of the edges end at c
@@ -39,5 +40,5 @@ All-laid =
 -- and every list form of a graph has these offsets, and two neighbours for each edge
 abbrev pub Starts-told : Type 0
 Starts-told =
-    (n : ℕ) (es : List Edge) (os ns : List ℕ) → Good n es → Lists n es os ns
+    (n : ℕ) (es : List Edge) (os ns : List ℕ) → Rising n None es → Lists n es os ns
     → ((c : ℕ) → c ≤ n → getD os c 0 ≡ start es c) × (length ns ≡ length es + length es)
