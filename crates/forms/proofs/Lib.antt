@@ -1,0 +1,4 @@
+pub mod Same
+pub mod Rising
+pub mod Edges
+pub mod Forms
