@@ -20,6 +20,7 @@ use Rattle.fields.specs.Parts.{Parts, last, more, ahead, parts}
 use Rattle.fields.proofs.Numbers.{own}
 use Rattle.fields.proofs.Pieces.{Without, without-tail, parts-last, parts-more}
 use Rattle.graph.specs.declared.edge.Edge.{Edge}
+use Rattle.graph.proofs.Edges.{latest-push}
 use Rattle.grammar.specs.declared.Kind.{Kind}
 use Rattle.grammar.specs.declared.Kind.the-variants.{Size, Clash, Remark, End, Other}
 use Rattle.grammar.specs.Lines.{field, size-of, letter, kind-of, Said, size, clash, remark, ended, wrong, both, said, says}
@@ -27,7 +28,7 @@ use Rattle.graph.specs.Edges.{edge, before, latest, above, Rising, Good}
 use Rattle.grammar.specs.Sheet.{row, written, Item, pair, note, line-of, edges-of, Sound, Reads, Outcome, states, fault, Verdict, fine, refused, judge, judged, closed, turn, walk, opened, opening, outcome, plain}
 use Rattle.grammar.proofs.Lines.{join, parts-join, join-three, Row, says-clash, says-size, says-remark, says-ended, said-never, row-says, end-says, remark-says}
 use Rattle.grammar.proofs.Lines.{join-two}
-use Rattle.grammar.proofs.Forth.{without-cons, without-nil, row-line, row-rest, latest-push, pairs-text}
+use Rattle.grammar.proofs.Forth.{without-cons, without-nil, row-line, row-rest, pairs-text}
 
 -- no part has the byte
 abbrev pub Clean : ℕ → Parts → Type 0

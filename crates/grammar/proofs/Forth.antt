@@ -20,6 +20,7 @@ use Rattle.fields.specs.Parts.{Parts, last, more, ahead, parts}
 use Rattle.fields.proofs.Numbers.{own}
 use Rattle.fields.proofs.Pieces.{Without, without-tail, parts-last, parts-more}
 use Rattle.graph.specs.declared.edge.Edge.{Edge}
+use Rattle.graph.proofs.Edges.{latest-push}
 use Rattle.grammar.specs.declared.Kind.{Kind}
 use Rattle.grammar.specs.declared.Kind.the-variants.{Size, Clash, Remark, End, Other}
 use Rattle.grammar.specs.Lines.{field, size-of, letter, kind-of, Said, size, clash, remark, ended, wrong, both, said, says}
@@ -97,11 +98,6 @@ walk-note n m es k t rest w o =
 pub walk-end : (n m : ℕ) (es : List Edge) (k : ℕ) → m ≤ length es → walk n m es k (parts 10 (101 ∷ 10 ∷ [])) ≡ states n es
 unfolding walk parts
 walk-end n m es k l = rw (end-says, le-ltb (length es) m l) refl
-
-pub latest-push : (es : List Edge) (e : Edge) → latest (es ++ e ∷ []) ≡ Some e
-latest-push [] e = refl
-latest-push (x ∷ []) e = refl
-latest-push (x ∷ y ∷ es) e = latest-push (y ∷ es) e
 
 pub walk-items : (n m : ℕ) (items : List Item) (es : List Edge) (k : ℕ) → n ≤ 1024 → Sound items → Rising n (latest es) (edges-of items) → length es + length (edges-of items) ≡ m → walk n m es k (parts 10 (joined line-of items ++ (101 ∷ 10 ∷ []))) ≡ states n (es ++ edges-of items)
 walk-items n m [] es k z s r l = walk-end n m es k (omega arith) ∙ ap (states n) (sym (append-nil es))

@@ -29,7 +29,7 @@ use Rattle.grammar.proofs.Lines.{join, parts-join, join-three, Row, says-clash
 use Rattle.std.proofs.shelf.Lists.{nil-from-length}
 use Rattle.std.proofs.shelf.Tests.{and-left, and-right}
 use Rattle.grammar.specs.Sheet.{limit}
-use Rattle.grammar.proofs.Forth.{latest-push, reads-states}
+use Rattle.grammar.proofs.Forth.{reads-states}
 use Rattle.grammar.proofs.Back.{row-bytes}
 use Rattle.grammar.proofs.Forth.{row-line}
 

@@ -15,7 +15,7 @@ use Rattle.graph.specs.declared.edge.Edge.{Edge}
 use Rattle.grammar.specs.Lines.{field, Said, size, clash, remark, ended, wrong, says}
 use Rattle.graph.specs.Edges.{edge, latest}
 use Rattle.grammar.specs.Sheet.{Outcome, states, fault, Verdict, fine, refused, judge, judged, closed, turn, walk}
-use Rattle.grammar.proofs.Forth.{latest-push}
+use Rattle.graph.proofs.Edges.{latest-push}
 use Rattle.grammar.proofs.Steps.{walk-stop, walk-line, judged-fine, judged-refused}
 use denote.Ref.{RefT, now}
 use Rattle.std.specs.Options.{mapped}

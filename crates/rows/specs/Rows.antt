@@ -103,7 +103,11 @@ abbrev pub First-bad : List ℕ → List ℕ → Part → ℕ → Type 0
 First-bad os ns Offsets i = (big os ns ≡ false) × First-bad-offset os (length ns) i
 First-bad os ns Neighbours k = (big os ns ≡ false) × First-bad-entry os ns k
 
--- which refusal two lists get
+-- why two lists cannot be taken
+abbrev pub Misfit : List ℕ → List ℕ → Refusal → Type 0
+Misfit os ns = Form-fault (big os ns ≡ true) (First-bad os ns) ⊥
+
+-- which refusal two lists get: for want of memory only where they could be taken
 abbrev pub Fault : List ℕ → List ℕ → Refusal → Type 0
 Fault os ns = Form-fault (big os ns ≡ true) (First-bad os ns) (Sound os ns)
 

@@ -6,7 +6,7 @@ ghost use lib.ListN.{length, getD};
 ghost use Rattle.std.specs.Options.{Cases as BySome};
 ghost use Rattle.std.specs.Results.{Cases};
 ghost use Rattle.std.specs.Orderings.{Decides};
-ghost use Rattle.rows.specs.Rows.{rows, in-row, At-row, Sound-offset, Sound-entry, Sound-offsets, Sound-entries, Sound, First-bad-offset, First-bad-entry, First-bad-in, Sound-row, Fault};
+ghost use Rattle.rows.specs.Rows.{rows, in-row, At-row, Sound-offset, Sound-entry, Sound-offsets, Sound-entries, Sound, First-bad-offset, First-bad-entry, First-bad-in, Sound-row, Misfit};
 use graph::refusal::Part;
 use graph::refusal::Refusal;
 
@@ -101,7 +101,7 @@ fn bad_entry(offsets: &[u16], neighbours: &[u16]) -> Option<usize>
 
 /// Whether the lists may be taken, and if not, why.
 pub fn judge(offsets: &[u16], neighbours: &[u16]) -> Result<(), Refusal>
-    ensures { λ r. ⌜ Cases r (λ _. Sound (now (offsets .entry)) (now (neighbours .entry))) (Fault (now (offsets .entry)) (now (neighbours .entry))) ⌝ }
+    ensures { λ r. ⌜ Cases r (λ _. Sound (now (offsets .entry)) (now (neighbours .entry))) (Misfit (now (offsets .entry)) (now (neighbours .entry))) ⌝ }
 {
     if offsets.len() > 1025 || neighbours.len() > 32768 {
         return Err(Refusal::TooLarge);

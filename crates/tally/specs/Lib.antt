@@ -1,0 +1,4 @@
+pub mod Within
+pub mod Counted
+pub mod Laid
+pub mod Begun
