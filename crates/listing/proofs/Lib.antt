@@ -1,0 +1,5 @@
+pub mod Starts
+pub mod Rows
+pub mod Laid
+pub mod All
+pub mod Steps
