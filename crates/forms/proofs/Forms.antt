@@ -3,7 +3,7 @@ use mathlib.Core.Path.{_≡_, refl, sym, _∙_, ap, subst}
 use mathlib.Core.List.{List}
 use mathlib.Core.Bool.{Bool, true, _&&_}
 use mathlib.Core.Logic.{inl, inr}
-use Prim.Native.Nat.{ℕ, _<_, _≤_}
+use Prim.Native.Nat.{ℕ, _+_, _<_, _≤_}
 use native.Mathlib.Omega.{arith}
 use lib.Dec.{ltb}
 use lib.ListN.{length}
@@ -15,7 +15,8 @@ use Rattle.graph.specs.Graph.{clash}
 use Rattle.graph.specs.Edges.{Good, Rising, joins, graph-of, edge-list}
 use Rattle.rows.specs.Rows.{rows, Sound, Lists, listed}
 use Rattle.rows.proofs.Lawful.{listed-lawful, row-below}
-use Rattle.forms.specs.Forms.{One-form, One-edges}
+use Rattle.listing.proofs.All.{starts-told}
+use Rattle.forms.specs.Forms.{Has-edges, One-form, One-edges}
 use Rattle.forms.proofs.Same as same
 use Rattle.forms.proofs.Rising.{rising-same}
 use Rattle.forms.proofs.Edges.{edge-list-rising, edge-list-joins}
@@ -50,3 +51,11 @@ one-edges n es os ns w v =
     let s = v .sound in
     let z : rows os ≡ n = v .size in
     rising-same n None None es (edge-list (listed os ns)) (w .rising) (subst (λ (k : ℕ). Rising k None (edge-list (listed os ns))) z (edges-rise os ns s)) (λ a b l m. sym (of-clash n es a b (omega arith) m) ∙ sym (v .same a b) ∙ sym (edge-list-joins (listed os ns) (listed-lawful os ns s) a b))
+
+-- two neighbours for each edge
+pub edges-count : (os ns : List ℕ) → Sound os ns → length ns ≡ length (edge-list (listed os ns)) + length (edge-list (listed os ns))
+edges-count os ns w =
+    starts-told (rows os) (edge-list (listed os ns)) os ns (edges-rise os ns w) (edges-listed os ns w) .1
+
+pub has-edges : Has-edges
+has-edges os ns w = has-edges-but os ns w (omega (arith, edges-count os ns w, w .short))

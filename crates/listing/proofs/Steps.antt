@@ -14,14 +14,10 @@ use Rattle.std.proofs.shelf.Sums.{sumBy-more}
 use Rattle.std.proofs.shelf.Tests.{cases-eq}
 use Rattle.std.proofs.shelf.Ways.{tells}
 use Rattle.graph.specs.declared.edge.Edge.{Edge}
+use Rattle.graph.proofs.Edges.{latest-push}
 use Rattle.graph.specs.Edges.{edge, latest, above, Rising}
 use Rattle.listing.specs.Listing.{row-length, start, Laid-rows}
 use Rattle.listing.proofs.Starts.{start-all}
-
-pub latest-push : (es : List Edge) (e : Edge) → latest (es ++ e ∷ []) ≡ Some e
-latest-push [] e = refl
-latest-push (x ∷ []) e = refl
-latest-push (x ∷ y ∷ es) e = latest-push (y ∷ es) e
 
 rising-push-behind : (n : ℕ) (p : Edge) (es : List Edge) (e : Edge) → Rising n (Some p) es → e .a < e .b → e .b < n → above (latest (p ∷ es)) e ≡ true → Rising n (Some p) (es ++ e ∷ [])
 rising-push-behind n p [] e r x y z = (x, y, z, tt)

@@ -47,18 +47,20 @@ getD-twice xs a b c l m d =
     let ys = set xs a (getD xs a 0 + 1) in
     let z = length-set xs a (getD xs a 0 + 1) in
     elim (cases-eq c b) [
-      inl e ↦ let f = ne-eqb c a (λ q. omega arith) in
-        let s : getD (set ys b (getD ys b 0 + 1)) c 0 ≡ getD ys b 0 + 1 = ap (λ (i : ℕ). getD (set ys b (getD ys b 0 + 1)) i 0) e ∙ getD-set-same ys b (getD ys b 0 + 1) 0 (omega arith) in
-        let t : getD ys b 0 ≡ getD xs b 0 = getD-set-other xs a b (getD xs a 0 + 1) 0 (λ q. omega arith) in
-        let u = ap (λ (i : ℕ). getD xs i 0) e in
-        rw (f, eq-eqb c b e) (omega arith)
-    | inr n ↦ let s = getD-set-other ys b c (getD ys b 0 + 1) 0 n in
-        elim (cases-eq c a) [
-          inl e ↦ let t : getD ys c 0 ≡ getD xs a 0 + 1 = ap (λ (i : ℕ). getD ys i 0) e ∙ getD-set-same xs a (getD xs a 0 + 1) 0 l in
-            let u = ap (λ (i : ℕ). getD xs i 0) e in
-            rw (eq-eqb c a e, ne-eqb c b n) (omega arith)
-        | inr k ↦ let t = getD-set-other xs a c (getD xs a 0 + 1) 0 k in
-            rw (ne-eqb c a k, ne-eqb c b n) (omega arith) ] ]
+      | inl e ↦ let f = ne-eqb c a (λ q. omega arith) in
+          let s : getD (set ys b (getD ys b 0 + 1)) c 0 ≡ getD ys b 0 + 1 = ap (λ (i : ℕ). getD (set ys b (getD ys b 0 + 1)) i 0) e ∙ getD-set-same ys b (getD ys b 0 + 1) 0 (omega arith) in
+          let t : getD ys b 0 ≡ getD xs b 0 = getD-set-other xs a b (getD xs a 0 + 1) 0 (λ q. omega arith) in
+          let u = ap (λ (i : ℕ). getD xs i 0) e in
+          rw (f, eq-eqb c b e) (omega arith)
+      | inr n ↦ let s = getD-set-other ys b c (getD ys b 0 + 1) 0 n in
+          elim (cases-eq c a) [
+            | inl e ↦ let t : getD ys c 0 ≡ getD xs a 0 + 1 = ap (λ (i : ℕ). getD ys i 0) e ∙ getD-set-same xs a (getD xs a 0 + 1) 0 l in
+                let u = ap (λ (i : ℕ). getD xs i 0) e in
+                rw (eq-eqb c a e, ne-eqb c b n) (omega arith)
+            | inr k ↦ let t = getD-set-other xs a c (getD xs a 0 + 1) 0 k in
+                rw (ne-eqb c a k, ne-eqb c b n) (omega arith)
+          ]
+    ]
 
 pub row-small : (xs : List ℕ) (a k : ℕ) → a < length xs → sum xs ≡ k + k → k ≤ 16384 → getD xs a 0 ≤ 32768
 row-small xs a k l e h = let z = getD-le-sumBy (λ x. x) xs a 0 l in omega arith
@@ -69,11 +71,13 @@ counted-none n t a b d e =
 
 pub counted-more : (n : ℕ) (es : List Edge) (t u : Tally) (a b : ℕ) → Counted n es t → length (t .lengths) ≡ 1024 → u .n ≡ t .n → u .clashes ≡ t .clashes + 1 → u .previous ≡ Some (edge a b) → u .lengths ≡ twice (t .lengths) a b → a < b → b < 1024 → Counted n (es ++ edge a b ∷ []) u
 counted-more n es t u a b s z e1 e2 e3 e4 l m =
-    record { size = e1 ∙ s .size
-    ; count = e2 ∙ ap (λ (x : ℕ). x + 1) (s .count) ∙ sym (length-push es (edge a b))
-    ; last = e3 ∙ sym (latest-push es (edge a b))
-    ; rows = λ c k. let g = getD-twice (t .lengths) a b c (omega arith) (omega arith) l in let h = s .rows c k in let p = row-push es (edge a b) c in
-        ap (λ xs. getD xs c 0) e4 ∙ g ∙ ap (λ (x : ℕ). x + cond (eqb c a) 1 0 + cond (eqb c b) 1 0) h ∙ sym p }
+    record {
+      size = e1 ∙ s .size;
+      count = e2 ∙ ap (λ (x : ℕ). x + 1) (s .count) ∙ sym (length-push es (edge a b));
+      last = e3 ∙ sym (latest-push es (edge a b));
+      rows = λ c k. let g = getD-twice (t .lengths) a b c (omega arith) (omega arith) l in let h = s .rows c k in let p = row-push es (edge a b) c in
+          ap (λ xs. getD xs c 0) e4 ∙ g ∙ ap (λ (x : ℕ). x + cond (eqb c a) 1 0 + cond (eqb c b) 1 0) h ∙ sym p;
+    }
 
 pub counting-outside : (n : ℕ) (es : List Edge) (a b : ℕ) → (n ≤ a) ⊎ (n ≤ b) → counting n es a b ≡ Some OutOfRange
 unfolding counting

@@ -65,17 +65,19 @@ getD-lower xs a b c l m d x y =
     let z = length-set xs a (getD xs a 0 - 1) in
     let t : getD ys b 0 ≡ getD xs b 0 = getD-set-other xs a b (getD xs a 0 - 1) 0 (λ q. omega arith) in
     elim (cases-eq c b) [
-      inl e ↦ let f = ne-eqb c a (λ q. omega arith) in
-        let s : getD (set ys b (getD ys b 0 - 1)) c 0 ≡ getD ys b 0 - 1 = ap (λ (i : ℕ). getD (set ys b (getD ys b 0 - 1)) i 0) e ∙ getD-set-same ys b (getD ys b 0 - 1) 0 (omega arith) in
-        let u = ap (λ (i : ℕ). getD xs i 0) e in
-        rw (f, eq-eqb c b e) (omega arith)
-    | inr n ↦ let s = getD-set-other ys b c (getD ys b 0 - 1) 0 n in
-        elim (cases-eq c a) [
-          inl e ↦ let v : getD ys c 0 ≡ getD xs a 0 - 1 = ap (λ (i : ℕ). getD ys i 0) e ∙ getD-set-same xs a (getD xs a 0 - 1) 0 l in
-            let u = ap (λ (i : ℕ). getD xs i 0) e in
-            rw (eq-eqb c a e, ne-eqb c b n) (omega arith)
-        | inr k ↦ let v = getD-set-other xs a c (getD xs a 0 - 1) 0 k in
-            rw (ne-eqb c a k, ne-eqb c b n) (omega arith) ] ]
+      | inl e ↦ let f = ne-eqb c a (λ q. omega arith) in
+          let s : getD (set ys b (getD ys b 0 - 1)) c 0 ≡ getD ys b 0 - 1 = ap (λ (i : ℕ). getD (set ys b (getD ys b 0 - 1)) i 0) e ∙ getD-set-same ys b (getD ys b 0 - 1) 0 (omega arith) in
+          let u = ap (λ (i : ℕ). getD xs i 0) e in
+          rw (f, eq-eqb c b e) (omega arith)
+      | inr n ↦ let s = getD-set-other ys b c (getD ys b 0 - 1) 0 n in
+          elim (cases-eq c a) [
+            | inl e ↦ let v : getD ys c 0 ≡ getD xs a 0 - 1 = ap (λ (i : ℕ). getD ys i 0) e ∙ getD-set-same xs a (getD xs a 0 - 1) 0 l in
+                let u = ap (λ (i : ℕ). getD xs i 0) e in
+                rw (eq-eqb c a e, ne-eqb c b n) (omega arith)
+            | inr k ↦ let v = getD-set-other xs a c (getD xs a 0 - 1) 0 k in
+                rw (ne-eqb c a k, ne-eqb c b n) (omega arith)
+          ]
+    ]
 
 -- the state behind one more edge
 pub laid-on : (n : ℕ) (es done : List Edge) (t u : Laying) (a b : ℕ) → Laid n es done t → length (t .next) ≡ 1024 → length (t .left) ≡ 1024 → a < b → b < 1024 → 0 < getD (t .left) a 0 → 0 < getD (t .left) b 0 → u .n ≡ t .n → u .clashes ≡ t .clashes → u .previous ≡ Some (edge a b) → u .next ≡ set (set (t .next) a (getD (t .next) a 0 + 1)) b (getD (set (t .next) a (getD (t .next) a 0 + 1)) b 0 + 1) → u .left ≡ set (set (t .left) a (getD (t .left) a 0 - 1)) b (getD (set (t .left) a (getD (t .left) a 0 - 1)) b 0 - 1) → Laid n es (done ++ edge a b ∷ []) u
@@ -86,12 +88,12 @@ laid-on n es done t u a b s l1 l2 d m x y e1 e2 e3 e4 e5 =
       count = e2 ∙ s .count;
       last = e3 ∙ sym (latest-push done (edge a b));
       next = λ c k. let p = row-push done (edge a b) c in
-        let q = ap (λ (xs : List ℕ). getD xs c 0) e4 ∙ getD-twice (t .next) a b c (omega arith) (omega arith) d in
-        let h = s .next c k in omega arith;
+          let q = ap (λ (xs : List ℕ). getD xs c 0) e4 ∙ getD-twice (t .next) a b c (omega arith) (omega arith) d in
+          let h = s .next c k in omega arith;
       left = λ c k. let p = row-push done (edge a b) c in
-        let q = getD-lower (t .left) a b c (omega arith) (omega arith) d x y in
-        let r = ap (λ (xs : List ℕ). getD xs c 0) e5 in
-        let h = s .left c k in omega arith;
+          let q = getD-lower (t .left) a b c (omega arith) (omega arith) d x y in
+          let r = ap (λ (xs : List ℕ). getD xs c 0) e5 in
+          let h = s .left c k in omega arith;
     }
 
 -- the places that are written

@@ -28,18 +28,25 @@ pub record Laying-out (lengths next : List ℕ) (total i : ℕ) : Type 0 where
 
 pub out-none : (lengths : List ℕ) → Laying-out lengths (replicate 1024 0) 0 0
 out-none lengths =
-    record { long = length-replicate {A = ℕ} 1024 0; so-far = refl; done = λ c l. absurd (omega arith)
-    ; zeros = λ c l. elim (cases-lt c 1024) [ inl h ↦ getD-replicate 1024 c 0 0 h | inr h ↦ getD-past (replicate 1024 0) c 0 (let z = length-replicate {A = ℕ} 1024 0 in omega arith) ] }
+    record {
+      long = length-replicate {A = ℕ} 1024 0;
+      so-far = refl;
+      done = λ c l. absurd (omega arith);
+      zeros = λ c l. elim (cases-lt c 1024) [ inl h ↦ getD-replicate 1024 c 0 0 h | inr h ↦ getD-past (replicate 1024 0) c 0 (let z = length-replicate {A = ℕ} 1024 0 in omega arith) ];
+    }
 
 pub out-more : (lengths next : List ℕ) (total i : ℕ) → length lengths ≡ 1024 → i < 1024 → Laying-out lengths next total i → Laying-out lengths (set next i total) (total + getD lengths i 0) (i + 1)
 out-more lengths next total i l h s =
     let z = s .long in
-    record { long = length-set next i total ∙ s .long
-    ; so-far = ap (λ (x : ℕ). x + getD lengths i 0) (s .so-far) ∙ sym (sumBy-more (λ x. x) lengths i 0 (omega arith))
-    ; done = λ c k. elim (cases-eq c i) [
-        inl e ↦ ap (λ (x : ℕ). getD (set next i total) x 0) e ∙ getD-set-same next i total 0 (omega arith) ∙ s .so-far ∙ ap (λ (x : ℕ). sum (take x lengths)) (sym e)
-      | inr n ↦ getD-set-other next i c total 0 n ∙ s .done c (omega arith) ]
-    ; zeros = λ c k. getD-set-other next i c total 0 (λ q. omega arith) ∙ s .zeros c (omega arith) }
+    record {
+      long = length-set next i total ∙ s .long;
+      so-far = ap (λ (x : ℕ). x + getD lengths i 0) (s .so-far) ∙ sym (sumBy-more (λ x. x) lengths i 0 (omega arith));
+      done = λ c k. elim (cases-eq c i) [
+        | inl e ↦ ap (λ (x : ℕ). getD (set next i total) x 0) e ∙ getD-set-same next i total 0 (omega arith) ∙ s .so-far ∙ ap (λ (x : ℕ). sum (take x lengths)) (sym e)
+        | inr n ↦ getD-set-other next i c total 0 n ∙ s .done c (omega arith)
+      ];
+      zeros = λ c k. getD-set-other next i c total 0 (λ q. omega arith) ∙ s .zeros c (omega arith);
+    }
 
 pub out-fits : (lengths : List ℕ) (i k : ℕ) → length lengths ≡ 1024 → i < 1024 → sum lengths ≡ k + k → k ≤ 16384 → sum (take i lengths) + getD lengths i 0 ≤ k + k
 out-fits lengths i k l h e f =
@@ -49,11 +56,13 @@ out-fits lengths i k l h e f =
 pub out-within : (lengths next : List ℕ) (total n k : ℕ) → length lengths ≡ 1024 → n ≤ 1024 → Laying-out lengths next total n → sum lengths ≡ k + k → k ≤ 16384 → Within next lengths k
 out-within lengths next total n k l h s e f c =
     elim (cases-lt c n) [
-      inl m ↦ let a = s .done c m in let b = out-fits lengths c k l (omega arith) e f in omega arith
-    | inr m ↦ let a = s .zeros c m in
-        elim (cases-lt c 1024) [
-          inl d ↦ let b = getD-le-sumBy (λ x. x) lengths c 0 (omega arith) in omega arith
-        | inr d ↦ let b = getD-past lengths c 0 (omega arith) in omega arith ] ]
+      | inl m ↦ let a = s .done c m in let b = out-fits lengths c k l (omega arith) e f in omega arith
+      | inr m ↦ let a = s .zeros c m in
+          elim (cases-lt c 1024) [
+            | inl d ↦ let b = getD-le-sumBy (λ x. x) lengths c 0 (omega arith) in omega arith
+            | inr d ↦ let b = getD-past lengths c 0 (omega arith) in omega arith
+          ]
+    ]
 
 pub start-sum : (es : List Edge) (lengths : List ℕ) (c : ℕ) → length lengths ≡ 1024 → c ≤ 1024 → ((i : ℕ) → i < 1024 → getD lengths i 0 ≡ row-length es i) → sum (take c lengths) ≡ start es c
 unfolding start

@@ -30,9 +30,9 @@ unfoldable pub laying : ℕ → List Edge → List Edge → ℕ → ℕ → ℕ 
 laying n es done room a b =
     cond (ltb room (length es + length es)) (Some ShortBuffer)
     (cond (leb n a || leb n b) (Some OutOfRange)
-     (cond (ltb a b && above (latest done) (edge a b))
-      (cond (leb (row-length es a) (row-length done a) || leb (row-length es b) (row-length done b)) (Some Miscounted) None)
-      (Some Unordered)))
+    (cond (ltb a b && above (latest done) (edge a b))
+    (cond (leb (row-length es a) (row-length done a) || leb (row-length es b) (row-length done b)) (Some Miscounted) None)
+    (Some Unordered)))
 
 -- there is room for n + 1 offsets and two neighbours for each edge
 pub record Room (n m offsets neighbours : ℕ) : Type 0 where
@@ -67,4 +67,4 @@ abbrev pub Unfinished : ℕ → List Edge → List Edge → List ℕ → ℕ →
 Unfinished n es done ns places x =
     ((x ≡ ShortBuffer) × (Room n (length es) places (length ns) → ⊥))
     ⊎ (((x ≡ Miscounted) × Room n (length es) places (length ns) × ((c : ℕ) × (c < n) × (row-length done c < row-length es c)))
-     ⊎ (Room n (length es) places (length ns) × Full n es done × ((part : Part) × (index : ℕ) × (x ≡ BadList part index) × Broken n es ns part index)))
+    ⊎ (Room n (length es) places (length ns) × Full n es done × ((part : Part) × (index : ℕ) × (x ≡ BadList part index) × Broken n es ns part index)))
