@@ -23,9 +23,12 @@ use Rattle.grammar.specs.Lines.{field, letter, kind-of, Said, size, clash, rem
 abbrev pub row : ℕ → ℕ → ℕ → List ℕ
 row c a b = c ∷ 9 ∷ (decimal a ++ 9 ∷ (decimal b ++ 10 ∷ []))
 
+abbrev pub edge-row : Edge → List ℕ
+edge-row e = row 112 (e .a) (e .b)
+
 -- the size line, the edges, the end
 abbrev pub written : ℕ → List Edge → List ℕ
-written n es = row 115 n (length es) ++ (joined (λ e. row 112 (e .a) (e .b)) es ++ (101 ∷ 10 ∷ []))
+written n es = row 115 n (length es) ++ (joined edge-row es ++ (101 ∷ 10 ∷ []))
 
 -- a line between the first and the last: an edge, or a remark with what stands behind its letter
 pub data Item : Type 0 where
