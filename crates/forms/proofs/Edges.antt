@@ -13,14 +13,10 @@ use Rattle.std.specs.declared.option.Option.{Option}
 use Rattle.std.specs.declared.option.Option.the-variants.{Some, None}
 use Rattle.finite.specs.Finite.{members}
 use Rattle.graph.specs.declared.edge.Edge.{Edge}
+use Rattle.graph.proofs.Edges.{last-after}
 use Rattle.graph.specs.Graph.{Graph, Lawful, clash}
 use Rattle.graph.specs.Edges.{edge, above, Rising, ends, joins, edges-at, edges-below, edge-list}
 use Rattle.graph.proofs.Graphs.{held-below, clash-left, clash-right}
-
--- the last edge of a list that stands behind o
-abbrev pub last-after : Option Edge → List Edge → Option Edge
-last-after o [] = o
-last-after o (e ∷ es) = last-after (Some e) es
 
 pub last-append : (o : Option Edge) (es fs : List Edge) → last-after o (es ++ fs) ≡ last-after (last-after o es) fs
 last-append o [] fs = refl

@@ -3,3 +3,4 @@ pub mod Rows
 pub mod Laid
 pub mod All
 pub mod Steps
+pub mod Fronts
