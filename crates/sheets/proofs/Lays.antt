@@ -100,7 +100,7 @@ laid-into n es os os′ ns ns′ g w r f =
       neighbours = r;
     }
 
-not-bad : (os ns : List ℕ) (part : Part) (k : ℕ) → Sound os ns → First-bad os ns part k → ⊥
+pub not-bad : (os ns : List ℕ) (part : Part) (k : ℕ) → Sound os ns → First-bad os ns part k → ⊥
 not-bad os ns Offsets k w b = one-fault .sound-offsets os ns k w (b .1)
 not-bad os ns Neighbours k w b = one-fault .sound-entries os ns k w (b .1)
 

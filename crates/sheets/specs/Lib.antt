@@ -1,1 +1,2 @@
 pub mod Into
+pub mod Loaded

@@ -7,6 +7,7 @@ ghost use Rattle.std.specs.Of.Vec.{vec-items, vec-len};
 ghost use Rattle.grammar.specs.Sheet.{fault, limit, outcome};
 ghost use Rattle.lines.specs.Kept.{told};
 ghost use Rattle.sheets.specs.Into.{Read-into, Unread, short};
+ghost use Rattle.sheets.specs.Loaded.{Loaded};
 use crate::laying_out::lay_out;
 use graph::edge::Edge;
 use graph::refusal::Refusal;
@@ -15,11 +16,10 @@ use reading::Size;
 use reading::check;
 use reading::read_edges;
 use sources::list_form::ListForm;
-use std::alloc::AllocError;
 use std::alloc::Global;
 
 // A fault of no line.
-fn unplaced<'a>(refusal: Refusal) -> Fault<'a>
+pub(crate) fn unplaced<'a>(refusal: Refusal) -> Fault<'a>
     ensures refusal { λ f. ⌜ f .refusal ≡ refusal ⌝ }
     ensures line { λ f. ⌜ f .line ≡ 0 ⌝ }
     ensures field { λ f. ⌜ f .field ≡ 0 ⌝ }
@@ -54,6 +54,31 @@ pub fn read<'a>(
     read_edges(sheet, edges.as_mut_slice())?;
     match lay_out(n, edges.as_slice(), offsets, neighbours) {
         Ok(()) => Ok(size),
+        Err(refusal) => Err(unplaced(refusal)),
+    }
+}
+
+/// Reads a sheet as a list form.
+pub fn load<'a>(heap: Global, sheet: &'a [u8]) -> Result<ListForm, Fault<'a>>
+    ensures { λ r. ⌜ Cases r (λ form. Loaded (now (sheet .entry)) (vec-items (form .offsets)) (vec-items (form .neighbours))) (Unread (outcome (now (sheet .entry)))) ⌝ }
+{
+    let size = check(sheet)?;
+    let rows = size.n as usize;
+    let clashes = size.clashes as usize;
+    let Ok(mut offsets) = vec![in heap; 0u16; rows + 1] else {
+        return Err(unplaced(Refusal::NoMemory));
+    };
+    let Ok(mut neighbours) = vec![in heap; 0u16; clashes + clashes] else {
+        return Err(unplaced(Refusal::NoMemory));
+    };
+    read(
+        heap,
+        sheet,
+        offsets.as_mut_slice(),
+        neighbours.as_mut_slice(),
+    )?;
+    match ListForm::filled(heap, offsets.as_slice(), neighbours.as_slice()) {
+        Ok(form) => Ok(form),
         Err(refusal) => Err(unplaced(refusal)),
     }
 }
