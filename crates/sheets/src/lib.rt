@@ -1,9 +1,9 @@
 //! Sheets read into list forms, and written again.
 mod laying_out;
-mod reading;
+mod loading;
 mod rounds;
 
-pub use reading::load;
-pub use reading::read;
+pub use loading::load;
+pub use loading::read;
 pub use rounds::reread;
 pub use rounds::rewrite;

@@ -7,8 +7,8 @@ use Rattle.std.proofs.shelf.Lists.{take-at}
 use Rattle.std.proofs.shelf.Results.{err-from-errBy}
 use Rattle.sheets.specs.Loaded.{Loaded}
 use Rattle.sheets.proofs.Stocks.{load-memory, load-unread, loads, loads-memory, loaded-memory}
-use Rattle.sheets.proofs.reading.load.Needs as need
-use Rattle.sheets.proofs.reading.load.Needs.{After-filled}
+use Rattle.sheets.proofs.loading.load.Needs as need
+use Rattle.sheets.proofs.loading.load.Needs.{After-filled}
 
 pub returns-in-rest : need.returns-in-rest
 returns-in-rest c =

@@ -5,8 +5,8 @@ use native.Mathlib.Omega.{arith}
 use lib.ListN.{length}
 use Rattle.std.proofs.shelf.Lists.{take-at}
 use Rattle.sheets.proofs.Stocks.{unread-short, unread-memory, edges-fit, edges-are, read-into, never-refused}
-use Rattle.sheets.proofs.reading.read.Needs as need
-use Rattle.sheets.proofs.reading.read.Needs.{then-offsets-n·by·then-offsets-n, then-offsets-n·by·else-offsets-n·then-neighbours-count}
+use Rattle.sheets.proofs.loading.read.Needs as need
+use Rattle.sheets.proofs.loading.read.Needs.{then-offsets-n·by·then-offsets-n, then-offsets-n·by·else-offsets-n·then-neighbours-count}
 
 pub returns-then-offsets-n : need.returns-then-offsets-n
 returns-then-offsets-n c =

@@ -1,0 +1,11 @@
+//! Stocks and sheets with the answers that they are due.
+#[cfg(test)]
+mod faulty;
+#[cfg(test)]
+mod good;
+#[cfg(test)]
+mod laid;
+#[cfg(test)]
+mod lists;
+#[cfg(test)]
+mod program;
