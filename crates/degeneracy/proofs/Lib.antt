@@ -1,0 +1,4 @@
+pub mod Orders
+pub mod Removal
+pub mod Ranks
+pub mod Cores
