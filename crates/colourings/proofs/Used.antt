@@ -1,17 +1,17 @@
 -- The colours that a colouring uses.
-use mathlib.Core.Path.{_≡_, refl, sym, _∙_, ap, subst}
+use mathlib.Core.Path.{_≡_, refl, sym, _∙_, subst}
 use mathlib.Core.Bool.{Bool, true, false, _&&_, not, cond}
-use mathlib.Core.Logic.{_⊎_, inl, inr}
+use mathlib.Core.Logic.{inl, inr}
 use Prim.Native.Nat.{ℕ, _+_, _-_, _<_, _≤_}
 use native.Mathlib.Omega.{arith}
 use lib.Dec.{eqb}
 use Rattle.std.proofs.shelf.Tests.{cases-bool, cases-eq, cases-order, and-parts, and-from, both-ways, not-true, not-from-false, eqb-true, eq-eqb, ne-eqb, cond-true, cond-false}
-use Rattle.finite.specs.Finite.{count, any}
+use Rattle.finite.specs.Finite.{any}
 use Rattle.finite.proofs.Counts.{count-onto, count-le, any-false}
 use Rattle.finite.proofs.Pigeons.{any-from, lowest-of, count-inject, hit, hit-some, hit-none}
-use Rattle.graph.specs.Graph.{Graph, held, clash}
-use Rattle.graph.specs.Cliques.{Clique, Clique-of}
-use Rattle.graph.specs.Colourings.{Proper, Coloured-in, Coloured, Colourable-in, Colourable, leads, used}
+use Rattle.graph.specs.Graph.{Graph, held}
+use Rattle.graph.specs.Cliques.{Clique-of}
+use Rattle.graph.specs.Colourings.{Proper, Coloured, Colourable, leads, used}
 use Rattle.graph.proofs.Graphs.{held-below}
 
 -- the lowest vertex of a colour
@@ -39,10 +39,12 @@ leads-first g col c b e y q l =
 pub leads-one : (g : Graph) (col : ℕ → ℕ) (a c : ℕ) → leads g col a ≡ true → leads g col c ≡ true → col a ≡ col c → a ≡ c
 leads-one g col a c x y e =
     elim (cases-order a c) [
-      inl q ↦ q
-    | inr o ↦ elim o [
-        inl l ↦ absurd (leads-first g col c a y (leads-held g col a x) e l)
-      | inr l ↦ absurd (leads-first g col a c x (leads-held g col c y) (sym e) l) ] ]
+      | inl q ↦ q
+      | inr o ↦ elim o [
+        | inl l ↦ absurd (leads-first g col c a y (leads-held g col a x) e l)
+        | inr l ↦ absurd (leads-first g col a c x (leads-held g col c y) (sym e) l)
+      ]
+    ]
 
 -- no more than k
 pub used-most : (g : Graph) (k : ℕ) (col : ℕ → ℕ) → Coloured g k col → used g col ≤ k
@@ -74,33 +76,41 @@ moved-off col k d c e = cond-false (eqb (col c) k) d (col c) (ne-eqb (col c) k e
 -- a colour that no vertex has can be done without
 pub fewer-colours : (g : Graph) (k d : ℕ) (col : ℕ → ℕ) → Coloured g (k + 1) col → 1 ≤ d → d ≤ k + 1 → ((c : ℕ) → held g c ≡ true → col c ≡ d → ⊥) → Coloured g k (moved col (k + 1) d)
 fewer-colours g k d col h one top none =
-    record { low = λ c y. elim (cases-eq (col c) (k + 1)) [ inl e ↦ omega (arith, moved-at col (k + 1) d c e) | inr e ↦ omega (arith, moved-off col (k + 1) d c e, h .low c y) ]
-    ; high = λ c y. elim (cases-eq (col c) (k + 1)) [
-        inl e ↦ elim (cases-eq d (k + 1)) [ inl q ↦ absurd (none c y (e ∙ sym q)) | inr q ↦ omega (arith, moved-at col (k + 1) d c e) ]
-      | inr e ↦ omega (arith, moved-off col (k + 1) d c e, h .high c y) ]
-    ; apart = λ a b y z e q. elim (cases-eq (col a) (k + 1)) [
-        inl i ↦ elim (cases-eq (col b) (k + 1)) [
-            inl j ↦ h .apart a b y z e (i ∙ sym j)
-          | inr j ↦ none b z (sym (moved-off col (k + 1) d b j) ∙ sym q ∙ moved-at col (k + 1) d a i) ]
-      | inr i ↦ elim (cases-eq (col b) (k + 1)) [
-            inl j ↦ none a y (sym (moved-off col (k + 1) d a i) ∙ q ∙ moved-at col (k + 1) d b j)
-          | inr j ↦ h .apart a b y z e (sym (moved-off col (k + 1) d a i) ∙ q ∙ moved-off col (k + 1) d b j) ] ] }
+    record {
+      low = λ c y. elim (cases-eq (col c) (k + 1)) [ inl e ↦ omega (arith, moved-at col (k + 1) d c e) | inr e ↦ omega (arith, moved-off col (k + 1) d c e, h .low c y) ];
+      high = λ c y. elim (cases-eq (col c) (k + 1)) [
+        | inl e ↦ elim (cases-eq d (k + 1)) [ inl q ↦ absurd (none c y (e ∙ sym q)) | inr q ↦ omega (arith, moved-at col (k + 1) d c e) ]
+        | inr e ↦ omega (arith, moved-off col (k + 1) d c e, h .high c y)
+      ];
+      apart = λ a b y z e q. elim (cases-eq (col a) (k + 1)) [
+        | inl i ↦ elim (cases-eq (col b) (k + 1)) [
+          | inl j ↦ h .apart a b y z e (i ∙ sym j)
+          | inr j ↦ none b z (sym (moved-off col (k + 1) d b j) ∙ sym q ∙ moved-at col (k + 1) d a i)
+        ]
+        | inr i ↦ elim (cases-eq (col b) (k + 1)) [
+          | inl j ↦ none a y (sym (moved-off col (k + 1) d a i) ∙ q ∙ moved-at col (k + 1) d b j)
+          | inr j ↦ h .apart a b y z e (sym (moved-off col (k + 1) d a i) ∙ q ∙ moved-off col (k + 1) d b j)
+        ]
+      ];
+    }
 
 -- where fewer do not suffice, every colour occurs
 pub every-colour : (g : Graph) (k : ℕ) (col : ℕ → ℕ) → Coloured g (k + 1) col → (Colourable g k → ⊥) → (d : ℕ) → 1 ≤ d → d ≤ k + 1 → (c : ℕ) × (held g c ≡ true) × (col c ≡ d)
 every-colour g k col h no-fewer d one top =
     elim (cases-bool (hit (held g) col (g .size) d)) [
-      inl y ↦ let w = hit-some (held g) col (g .size) d y in (w .0, w .2, w .3)
-    | inr y ↦ absurd (no-fewer (moved col (k + 1) d, fewer-colours g k d col h one top (λ c z. hit-none (held g) col (g .size) d y c (held-below g c z) z))) ]
+      | inl y ↦ let w = hit-some (held g) col (g .size) d y in (w .0, w .2, w .3)
+      | inr y ↦ absurd (no-fewer (moved col (k + 1) d, fewer-colours g k d col h one top (λ c z. hit-none (held g) col (g .size) d y c (held-below g c z) z)))
+    ]
 
 pub used-exactly : (g : Graph) (k : ℕ) (col : ℕ → ℕ) → Coloured g k col → (Colourable g (k - 1) → ⊥) → used g col ≡ k
 used-exactly g k col h no-fewer =
     elim (cases-eq k 0) [
-      inl z ↦ absurd (no-fewer (col, (let e : k ≡ k - 1 = omega arith in subst (λ v. Coloured g v col) e h)))
-    | inr z ↦ let e : k ≡ k - 1 + 1 = omega arith in
-        let u = used-most g k col h in
-        let v = used-least g (k - 1 + 1) col (every-colour g (k - 1) col (subst (λ v. Coloured g v col) e h) no-fewer) in
-        omega arith ]
+      | inl z ↦ absurd (no-fewer (col, (let e : k ≡ k - 1 = omega arith in subst (λ v. Coloured g v col) e h)))
+      | inr z ↦ let e : k ≡ k - 1 + 1 = omega arith in
+          let u = used-most g k col h in
+          let v = used-least g (k - 1 + 1) col (every-colour g (k - 1) col (subst (λ v. Coloured g v col) e h) no-fewer) in
+          omega arith
+    ]
 
 -- the members of a clique have different colours
 pub clique-used : (g : Graph) (K : ℕ → Bool) (b : ℕ) (col : ℕ → ℕ) → Clique-of g K b → Proper g col → b ≤ used g col

@@ -1,13 +1,13 @@
 -- The degeneracy is the largest t with a t-core that is not empty.
-use mathlib.Core.Path.{_≡_, refl, sym, _∙_, ap, subst}
+use mathlib.Core.Path.{_≡_, subst}
 use mathlib.Core.List.{List}
-use mathlib.Core.Bool.{Bool, true, false}
+use mathlib.Core.Bool.{false}
 use mathlib.Core.Logic.{_⊎_, inl, inr}
-use Prim.Native.Nat.{ℕ, _<_, _≤_}
+use Prim.Native.Nat.{ℕ, _≤_}
 use native.Mathlib.Omega.{arith}
-use lib.ListN.{length, getD, take}
-use Rattle.std.proofs.shelf.Tests.{cases-bool, both-ways}
-use Rattle.graph.specs.Graph.{Graph, held, inside}
+use lib.ListN.{getD, take}
+use Rattle.std.proofs.shelf.Tests.{cases-bool}
+use Rattle.graph.specs.Graph.{Graph, held}
 use Rattle.graph.specs.Degeneracy.{Is-degeneracy, Has-core, Is-largest-core}
 use Rattle.graph.proofs.Graphs.{held-below}
 use Rattle.degeneracy.specs.Order.{survivors, met, Is-order, Is-peak}
@@ -19,14 +19,24 @@ pub peak-core : (g : Graph) (p : List ℕ) (m : ℕ) → Is-order g p → Is-pea
 unfolding met
 peak-core g p m o k =
     elim (k .reached) [
-      inr r ↦ let q = take (r .0) p in
-        let n = o .each (r .0) (r .1) in
-        inl (record { set = survivors g q; member = getD p (r .0) 0; some = n .member
-          ; supported = record { within = survivors-held g q; each = λ c y. omega (arith, n .least c (held-below g c (survivors-held g q c y)) y, r .2) } })
-    | inl z ↦ elim (fewest-some (held g) (λ _. 0) (g .size)) [
-        inr w ↦ inl (record { set = held g; member = w .0; some = w .1 .member
-          ; supported = record { within = λ c y. y; each = λ c y. omega arith } })
-      | inl none ↦ inr (z, λ c. elim (cases-bool (held g c)) [ inl y ↦ none c (held-below g c y) | inr y ↦ y ]) ] ]
+      | inr r ↦ let q = take (r .0) p in
+          let n = o .each (r .0) (r .1) in
+          inl (record {
+            set = survivors g q;
+            member = getD p (r .0) 0;
+            some = n .member;
+            supported = record { within = survivors-held g q; each = λ c y. omega (arith, n .least c (held-below g c (survivors-held g q c y)) y, r .2) };
+          })
+      | inl z ↦ elim (fewest-some (held g) (λ _. 0) (g .size)) [
+        | inr w ↦ inl (record {
+          set = held g;
+          member = w .0;
+          some = w .1 .member;
+          supported = record { within = λ c y. y; each = λ c y. omega arith };
+        })
+        | inl none ↦ inr (z, λ c. elim (cases-bool (held g c)) [ inl y ↦ none c (held-below g c y) | inr y ↦ y ])
+      ]
+    ]
 
 -- no core has a higher number
 pub core-most : (g : Graph) (d : ℕ) → Is-degeneracy g d → (t : ℕ) → Has-core g t → t ≤ d

@@ -1,21 +1,20 @@
 use mathlib.Core.Path.{_≡_, refl, sym, _∙_, ap, subst}
 use mathlib.Core.List.{List, [], _∷_, _++_}
-use mathlib.Core.Bool.{Bool, true, false, _&&_, not}
-use mathlib.Core.Logic.{_⊎_, inl, inr}
-use Prim.Native.Nat.{ℕ, zero, suc, _+_, _<_, _≤_}
+use mathlib.Core.Bool.{Bool, true, false, not}
+use mathlib.Core.Logic.{inl, inr}
+use Prim.Native.Nat.{ℕ, zero, suc, _≤_}
 use native.Mathlib.Numerals.{add-one}
 use native.Mathlib.Omega.{arith}
-use lib.Dec.{eqb}
 use lib.ListN.{length, getD, take}
-use Rattle.std.proofs.shelf.Lists.{take-all, take-more, ext-getD, getD-take, length-take}
-use Rattle.std.proofs.shelf.Tests.{cases-bool, cases-eq, cases-lt, cases-order, and-parts, and-from, and-left, and-right, both-ways, eq-eqb, ne-eqb, not-true, not-from-true, not-from-false}
+use Rattle.std.proofs.shelf.Lists.{take-all, take-more}
+use Rattle.std.proofs.shelf.Tests.{cases-lt, cases-order, and-parts, and-from, both-ways, not-true, not-from-false}
 use Rattle.std.proofs.shelf.Ways.{tells}
 use Rattle.finite.specs.Finite.{has, Fewest}
-use Rattle.finite.proofs.Counts.{has-none, has-push, has-at, has-take, first-at}
-use Rattle.graph.specs.Graph.{Graph, Lawful, held, clash, inside}
+use Rattle.finite.proofs.Counts.{has-none, has-push, first-at}
+use Rattle.graph.specs.Graph.{Graph, held, inside}
 use Rattle.graph.proofs.Graphs.{held-below, inside-mono}
 use Rattle.degeneracy.specs.Order.{survivors, met, Next, Is-order, Is-peak}
-use Rattle.graph.specs.Degeneracy.{Sparse, Is-degeneracy}
+use Rattle.graph.specs.Degeneracy.{Is-degeneracy}
 
 pub survivors-held : (g : Graph) (p : List ℕ) (c : ℕ) → survivors g p c ≡ true → held g c ≡ true
 unfolding survivors
@@ -45,23 +44,28 @@ survivors-other g p x c ne = let h = has-push p x c in grind (arith, tells)
 pub peak-degeneracy : (g : Graph) (p : List ℕ) (m : ℕ) → Is-order g p → Is-peak g p m → Is-degeneracy g m
 unfolding met
 peak-degeneracy g p m o k =
-    record { sparse = λ s f a y. let w = first-at s p a (o .all a (f a y)) y in
-        (getD p (w .0) 0, w .2, (let h = inside-mono g s (survivors g (take (w .0) p)) (getD p (w .0) 0) (λ b t. survivors-from g (take (w .0) p) b (f b t) (w .3 b t)) in let j = k .above (w .0) (w .1) in omega arith))
-    ; least = λ e sp. elim (k .reached) [
-        inl z ↦ omega arith
-      | inr r ↦ let n = o .each (r .0) (r .1) in
-          let s = survivors g (take (r .0) p) in
-          let v = sp s (survivors-held g (take (r .0) p)) (getD p (r .0) 0) (n .member) in
-          let h = n .least (v .0) (held-below g (v .0) (survivors-held g (take (r .0) p) (v .0) (v .1))) (v .1) in
-          omega (arith, r .2, v .2) ] }
+    record {
+      sparse = λ s f a y. let w = first-at s p a (o .all a (f a y)) y in
+          (getD p (w .0) 0, w .2, (let h = inside-mono g s (survivors g (take (w .0) p)) (getD p (w .0) 0) (λ b t. survivors-from g (take (w .0) p) b (f b t) (w .3 b t)) in let j = k .above (w .0) (w .1) in omega arith));
+      least = λ e sp. elim (k .reached) [
+        | inl z ↦ omega arith
+        | inr r ↦ let n = o .each (r .0) (r .1) in
+            let s = survivors g (take (r .0) p) in
+            let v = sp s (survivors-held g (take (r .0) p)) (getD p (r .0) 0) (n .member) in
+            let h = n .least (v .0) (held-below g (v .0) (survivors-held g (take (r .0) p) (v .0) (v .1))) (v .1) in
+            omega (arith, r .2, v .2)
+      ];
+    }
 
 fewest-one : (s : ℕ → Bool) (f : ℕ → ℕ) (n x y : ℕ) → Fewest s f n x → Fewest s f n y → x ≡ y
 fewest-one s f n x y a b =
     elim (cases-order x y) [
-      inl e ↦ e
-    | inr r ↦ elim r [
-        inl l ↦ absurd (let h = b .lowest x l (a .member) in let k = a .least y (b .within) (b .member) in omega arith)
-      | inr l ↦ absurd (let h = a .lowest y l (b .member) in let k = b .least x (a .within) (a .member) in omega arith) ] ]
+      | inl e ↦ e
+      | inr r ↦ elim r [
+        | inl l ↦ absurd (let h = b .lowest x l (a .member) in let k = a .least y (b .within) (b .member) in omega arith)
+        | inr l ↦ absurd (let h = a .lowest y l (b .member) in let k = b .least x (a .within) (a .member) in omega arith)
+      ]
+    ]
 
 fronts : (g : Graph) (p q : List ℕ) → Is-order g p → Is-order g q → (i : ℕ) → i ≤ length p → i ≤ length q → take i p ≡ take i q
 fronts g p q a b zero l m = refl
@@ -76,11 +80,12 @@ fronts g p q a b (suc i) l m =
 shorter : (g : Graph) (p q : List ℕ) → Is-order g p → Is-order g q → length p ≤ length q
 shorter g p q a b =
     elim (cases-lt (length q) (length p)) [
-      inr h ↦ h
-    | inl l ↦ absurd (let f = fronts g p q a b (length q) (omega arith) (omega arith) ∙ take-all (length q) q (omega arith) in
-        let n = a .each (length q) l .member in
-        let t = subst (λ t. survivors g t (getD p (length q) 0) ≡ true) f n in
-        both-ways (has q (getD p (length q) 0)) (survivors-not g q (getD p (length q) 0) t) (b .all (getD p (length q) 0) (survivors-held g q (getD p (length q) 0) t))) ]
+      | inr h ↦ h
+      | inl l ↦ absurd (let f = fronts g p q a b (length q) (omega arith) (omega arith) ∙ take-all (length q) q (omega arith) in
+          let n = a .each (length q) l .member in
+          let t = subst (λ t. survivors g t (getD p (length q) 0) ≡ true) f n in
+          both-ways (has q (getD p (length q) 0)) (survivors-not g q (getD p (length q) 0) t) (b .all (getD p (length q) 0) (survivors-held g q (getD p (length q) 0) t)))
+    ]
 
 -- there is one order
 pub order-one : (g : Graph) (p q : List ℕ) → Is-order g p → Is-order g q → p ≡ q

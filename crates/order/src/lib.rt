@@ -6,7 +6,7 @@ ghost use lib.ListN.{length, getD, take, drop};
 ghost use Rattle.std.specs.Options.{Cases as BySome};
 ghost use Rattle.std.specs.Results.{Cases};
 ghost use Rattle.finite.specs.Finite.{Fewest};
-ghost use Rattle.graph.specs.Graph.{Graph, held, clash, degree, vertices};
+ghost use Rattle.graph.specs.Graph.{held, clash, degree, vertices};
 ghost use Rattle.degeneracy.specs.Theorems.{One-order, Peak-is-degeneracy, One-degeneracy, Degeneracy-is-core, None-held};
 ghost use Rattle.order.specs.Order.{Ordered-in, Order-refused};
 use graph::Listed;
@@ -119,7 +119,10 @@ fn remove_all<S: Listed>(source: &S, order: &mut [u16]) -> Ordered
         alive[x] = false;
         take_out(source, x, &mut left);
     }
-    Ordered { len, degeneracy: most }
+    Ordered {
+        len,
+        degeneracy: most,
+    }
 }
 
 // Copies the first len places.

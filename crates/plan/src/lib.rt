@@ -5,7 +5,7 @@ ghost use mathlib.Core.Logic.{_⊎_};
 ghost use Prim.Native.Nat.{ℕ, _<_, _≤_};
 ghost use lib.ListN.{length, getD, drop};
 ghost use Rattle.std.specs.Results.{Cases};
-ghost use Rattle.graph.specs.Graph.{Graph, held};
+ghost use Rattle.graph.specs.Graph.{held};
 ghost use Rattle.colourings.specs.Theorems.{Clique-needs};
 ghost use Rattle.degeneracy.specs.Order.{met, Is-order};
 ghost use Rattle.degeneracy.specs.Greedy.{Lowest, Is-plan, Marked, coloured-near};
@@ -13,7 +13,6 @@ ghost use Rattle.plan.specs.Plan.{Planned-in, Plan-refused, One-plan};
 use graph::Listed;
 use graph::Source;
 use graph::refusal::Refusal;
-use order::Ordered;
 use order::removal_order;
 
 /// How long the order is, the degeneracy, and how many different drives the plan uses.
@@ -118,7 +117,11 @@ fn highest(colours: &[u16], n: usize) -> usize
 
 /// Orders the vertices, and gives each the lowest drive from 1 that no neighbour has, back through the order.
 /// Refuses a buffer that is too short, and then a degeneracy above 63.
-pub fn plan<S: Listed>(source: &S, order: &mut [u16], colours: &mut [u16]) -> Result<Planned, Refusal>
+pub fn plan<S: Listed>(
+    source: &S,
+    order: &mut [u16],
+    colours: &mut [u16],
+) -> Result<Planned, Refusal>
     ensures { λ r. ⌜ Cases r (λ p. Planned-in (S·Source .graph (now (source .entry))) (now (order .entry)) (now (order .exit)) (now (colours .entry)) (now (colours .exit)) (p .len) (p .degeneracy) (p .drives) × (p .degeneracy ≤ 63)) (λ x. Plan-refused (S·Source .graph (now (source .entry))) (length (now (order .entry))) (length (now (colours .entry))) x × (now (order .exit) ≡ now (order .entry)) × (now (colours .exit) ≡ now (colours .entry))) ⌝ }
 {
     let n = source.size();
@@ -129,5 +132,9 @@ pub fn plan<S: Listed>(source: &S, order: &mut [u16], colours: &mut [u16]) -> Re
     let len = ordered.len;
     paint_back(source, &order[0..len], colours);
     let drives = highest(colours, n);
-    Ok(Planned { len, degeneracy: ordered.degeneracy, drives })
+    Ok(Planned {
+        len,
+        degeneracy: ordered.degeneracy,
+        drives,
+    })
 }

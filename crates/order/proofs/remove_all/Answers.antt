@@ -4,7 +4,7 @@ use mathlib.Core.Bool.{false}
 use mathlib.Core.Logic.{_⊎_, inl, inr}
 use Prim.Native.Nat.{_<_, _≤_}
 use native.Mathlib.Omega.{arith}
-use lib.ListN.{length, take, drop, set}
+use lib.ListN.{length, take, set}
 use Rattle.std.proofs.shelf.Lists.{length-set, length-take-le, take-more-set, drop-set-lt}
 use Rattle.graph.specs.Graph.{vertices, inside}
 use Rattle.degeneracy.specs.Order.{survivors, Next}
@@ -15,10 +15,13 @@ use Rattle.order.proofs.remove_all.Needs as need
 use Rattle.order.proofs.remove_all.Needs.{then-with-most, else-with-most, In-Some}
 
 pub loop-x-holds : need.loop-x-holds
-loop-x-holds g c =
-    ( search needs, search needs, omega arith
-    , state-none (g .S·Source .graph (c .args .source .now)) (c .fill-alive .last .alive) (c .fill-degrees .last .left) (c .fill-alive .ensures) (c .fill-degrees .ensures)
-    , refl )
+loop-x-holds g c = (
+  search needs,
+  search needs,
+  omega arith,
+  state-none (g .S·Source .graph (c .args .source .now)) (c .fill-alive .last .alive) (c .fill-degrees .last .left) (c .fill-alive .ensures) (c .fill-degrees .ensures),
+  refl,
+)
 
 -- what was found is the next in the order, and there is room for it
 found : (g : Given.Over) (c : In-Some g) → Next (g .S·Source .graph (c .args .source .now)) (survivors (g .S·Source .graph (c .args .source .now)) (take (c .loop-x .len) (c .loop-x .order))) (c .in-Some .x) × (c .loop-x .len < vertices (g .S·Source .graph (c .args .source .now))) × (c .loop-x .len < length (c .loop-x .order))
@@ -52,13 +55,17 @@ loop-x-again g c =
     let f = found g (need.at·loop-x-again g c .In-Some) in
     let w = s .lefts x (f .0 .within) in
     let ways : (c .loop-x .most ≤ m) × (inside G (survivors G p) x ≤ m) × ((m ≡ c .loop-x .most) ⊎ (m ≡ inside G (survivors G p) x)) =
-        elim (c .if-with-most .came) [
-          then-with-most v ↦ (omega (arith, v .most-is, v .if-with-most .taken), omega (arith, v .most-is), inr (v .most-is ∙ w))
-        | else-with-most v ↦ (omega (arith, v .most-is), omega (arith, v .most-is, v .if-with-most .left), inl (v .most-is)) ] in
-    let more = state-more G p (c .loop-x .alive) (c .loop-x .left) (c .take-out .last .left) (c .loop-x .most) m x lw (omega (arith, lw .small, c .loop-x .inv .0)) s (f .0) (c .take-out .ensures) (ways .0) (ways .1) (ways .2) in
-    ( simp length-set (c .loop-x .inv .0), search needs, simp length-set (omega (arith, f .2))
-    , subst (λ q. State G q (set (c .loop-x .alive) x false) (c .take-out .last .left) m) (sym (take-more-set (c .loop-x .order) (c .loop-x .len) x (f .2))) more
-    , drop-set-lt (vertices G) (c .loop-x .order) (c .loop-x .len) x (f .1) ∙ c .loop-x .inv .4 )
+    elim (c .if-with-most .came) [
+      | then-with-most v ↦ (omega (arith, v .most-is, v .if-with-most .taken), omega (arith, v .most-is), inr (v .most-is ∙ w))
+      | else-with-most v ↦ (omega (arith, v .most-is), omega (arith, v .most-is, v .if-with-most .left), inl (v .most-is))
+    ] in
+    let more = state-more G p (c .loop-x .alive) (c .loop-x .left) (c .take-out .last .left) (c .loop-x .most) m x lw (omega (arith, lw .small, c .loop-x .inv .0)) s (f .0) (c .take-out .ensures) (ways .0) (ways .1) (ways .2) in (
+      simp length-set (c .loop-x .inv .0),
+      search needs,
+      simp length-set (omega (arith, f .2)),
+      subst (λ q. State G q (set (c .loop-x .alive) x false) (c .take-out .last .left) m) (sym (take-more-set (c .loop-x .order) (c .loop-x .len) x (f .2))) more,
+      drop-set-lt (vertices G) (c .loop-x .order) (c .loop-x .len) x (f .1) ∙ c .loop-x .inv .4,
+    )
 
 pub returns : need.returns
 returns g c =

@@ -1,5 +1,5 @@
 use mathlib.Core.Path.{_≡_}
-use Prim.Native.Nat.{ℕ, _<_, _≤_, _-_}
+use Prim.Native.Nat.{_≤_, _-_}
 use lib.ListN.{length, take, drop}
 use Rattle.graph.specs.Graph.{vertices}
 use Rattle.degeneracy.proofs.Removal.{State}

@@ -1,5 +1,3 @@
-use mathlib.Core.Path.{_≡_}
-use Prim.Native.Nat.{ℕ, _<_, _≤_, _+_}
 use Rattle.degeneracy.proofs.Ranks.{Taken}
 use Rattle.order.proofs.take_out.Given as given
 

@@ -1,7 +1,6 @@
-use borrow.Author.Needs.{needs}
-use mathlib.Core.Path.{_≡_, refl, sym, _∙_, ap, subst}
+use mathlib.Core.Path.{_≡_, subst}
 use mathlib.Core.Logic.{_⊎_}
-use Prim.Native.Nat.{ℕ, _+_, _-_, _<_, _≤_}
+use Prim.Native.Nat.{ℕ, _-_, _<_}
 use native.Mathlib.Omega.{arith}
 use lib.ListN.{getD, take}
 use Rattle.graph.specs.Colourings.{Coloured}
@@ -24,8 +23,8 @@ returns g c =
     let col : ℕ → ℕ = λ v. getD (c .paint-back .last .colours) v 0 in
     let w : Is-plan G p col = subst (λ v. Is-plan G (take v (c .removal-order .last .order)) col) e (c .paint-back .ensures .plan) in
     let all : Coloured G top col = plan-coloured G p col top lw (o .order) w (λ k l. h .bound k (omega arith)) in
-    let each = plan-reached G p col top (o .order) w (subst (λ m. (top ≡ 0) ⊎ ((k : ℕ) × (k < m) × (col k ≡ top))) size (h .found)) in
-    ( record {
+    let each = plan-reached G p col top (o .order) w (subst (λ m. (top ≡ 0) ⊎ ((k : ℕ) × (k < m) × (col k ≡ top))) size (h .found)) in (
+      record {
         ordered = o;
         plan = w;
         proper = plan-proper G p col lw (o .order) w;
@@ -34,5 +33,6 @@ returns g c =
         drives-are = omega (arith, used-most G top col all, used-least G top col each);
         coloured = all;
         rest = c .paint-back .ensures .rest;
-      }
-    , c .in-Continue-ordered .ensures tt .1 )
+      },
+      c .in-Continue-ordered .ensures tt .1,
+    )

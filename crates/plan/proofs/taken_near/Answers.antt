@@ -13,9 +13,10 @@ loop-i-again g c =
     let G = g .S·Source .graph (c .args .source .now) in
     let paint = c .args .colours .now in
     elim (c .match-neighbour .came) [
-      in-Some w ↦ let at = w .in-Some .ensures tt .ranked in
-        subst (Marks G (c .args .x) paint (c .loop-i .i + 1)) (sym (w .taken-is)) (marks-more G (c .args .x) paint (c .loop-i .i) (w .in-Some .b) (c .loop-i .taken) (c .loop-i .inv) at (c .pre .small (w .in-Some .b) (at .0)))
-    | in-rest w ↦ absurd (omega (arith, w .in-rest .ensures tt .ranked, c .degree-i-end .ensures)) ]
+      | in-Some w ↦ let at = w .in-Some .ensures tt .ranked in
+          subst (Marks G (c .args .x) paint (c .loop-i .i + 1)) (sym (w .taken-is)) (marks-more G (c .args .x) paint (c .loop-i .i) (w .in-Some .b) (c .loop-i .taken) (c .loop-i .inv) at (c .pre .small (w .in-Some .b) (at .0)))
+      | in-rest w ↦ absurd (omega (arith, w .in-rest .ensures tt .ranked, c .degree-i-end .ensures))
+    ]
 
 pub returns : need.returns
 returns g c =
