@@ -1,4 +1,5 @@
 pub mod Counts
 pub mod Members
 pub mod Pairs
+pub mod Pigeons
 pub mod Rising

@@ -64,3 +64,11 @@ ranked-listed g c i b r = sym (members-at (clash g c) (g .size) b i (r .within) 
 pub degree-past : (g : Graph) (c i : ℕ) → degree g c ≤ i → None ≡ nth (members (clash g c) (g .size)) i
 unfolding degree
 degree-past g c i l = sym (members-past (clash g c) (g .size) i l)
+
+pub degree-le : (g : Graph) (c : ℕ) → degree g c ≤ g .size
+unfolding degree
+degree-le g c = count-le (clash g c) (g .size)
+
+pub vertices-le : (g : Graph) → vertices g ≤ g .size
+unfolding vertices
+vertices-le g = count-le (held g) (g .size)

@@ -1,3 +1,6 @@
 pub mod Graph
+pub mod Cliques
+pub mod Colourings
+pub mod Degeneracy
 pub mod Edges
 pub mod Refusals

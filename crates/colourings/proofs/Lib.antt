@@ -1,0 +1,2 @@
+pub mod Coloured
+pub mod Used
