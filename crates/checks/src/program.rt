@@ -1,6 +1,6 @@
 use graph::refusal::RefusalDebug;
 use graph::refusal::RefusalPartialEq;
-use printout::respond;
+use printout::clean_sheet;
 use sheets::load;
 use sheets::read;
 use sheets::reread;
@@ -10,7 +10,7 @@ use std::test::*;
 const RING: &[u8] = b"s\t4\t4\np\t0\t1\np\t0\t3\nr\tturn\np\t1\t2\np\t2\t3\ne\n";
 
 fn prints(heap: Global, input: &[u8], output: &[u8]) -> Result<(), Fail> {
-    let text = respond(heap, input)?;
+    let text = clean_sheet(heap, input)?;
     check_eq(text.as_slice(), output)
 }
 

@@ -1,6 +1,6 @@
-// The sizing program: reads a sheet on standard input, and prints what the library says of it.
+// The sizing program: reads a sheet on standard input, and prints the first plan of its stock.
 use printout::LIMIT;
-use printout::respond;
+use sizing::respond;
 use std::io;
 use std::io::Read;
 use std::io::Write;

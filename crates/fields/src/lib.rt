@@ -10,6 +10,7 @@ ghost use Rattle.std.specs.shelf.Text.{allDigits};
 ghost use Rattle.std.specs.Written.{decimal};
 ghost use Rattle.fields.specs.Numerals.{Numeral, numeral, readOn};
 ghost use Rattle.fields.specs.Parts.{Cut};
+ghost use Rattle.fields.specs.Rows.{numbers-line};
 use std::alloc::AllocError;
 
 // The number that the digits write, if they are digits.
@@ -50,6 +51,19 @@ pub fn write_number(out: &mut Vec<u8>, v: u64) -> Result<(), AllocError>
         write_number(out, v / 10)?;
     }
     out.push(b'0' + (v % 10) as u8)?;
+    Ok(())
+}
+
+// Writes a line: a letter, a tab before each number, and a line feed.
+pub fn write_fields(out: &mut Vec<u8>, letter: u8, numbers: &[u64]) -> Result<(), AllocError>
+    ensures { λ r. ⌜ made r (λ _. vec-items (now (out .exit)) ≡ vec-items (now (out .entry)) ++ numbers-line letter (now (numbers .entry))) ⌝ }
+{
+    out.push(letter)?;
+    for x in numbers {
+        out.push(b'\t')?;
+        write_number(out, *x)?;
+    }
+    out.push(b'\n')?;
     Ok(())
 }
 

@@ -1,21 +1,17 @@
 -- What the program prints for what it is given.
 use mathlib.Core.Path.{_≡_}
-use mathlib.Core.List.{List, [], _∷_, _++_}
+use mathlib.Core.List.{List, [], _∷_}
 use mathlib.Core.Bool.{cond}
 use mathlib.Core.Logic.{_⊎_}
 use Prim.Native.Nat.{ℕ}
 use lib.Dec.{eqb, ltb}
 use lib.ListN.{length}
-use Rattle.std.specs.Written.{decimal}
+use Rattle.fields.specs.Rows.{numbers-line}
 use Rattle.grammar.specs.Sheet.{Outcome, states, fault, outcome, written}
-
--- a line and a field
-abbrev pub place : ℕ → ℕ → List ℕ
-place k j = 9 ∷ (decimal k ++ 9 ∷ decimal j)
 
 -- the letter x and the number, and for 9 the line and the field
 abbrev pub refusal : ℕ → ℕ → ℕ → List ℕ
-refusal x k j = 120 ∷ 9 ∷ (decimal x ++ (cond (eqb x 9) (place k j) [] ++ 10 ∷ []))
+refusal x k j = numbers-line 120 (x ∷ cond (eqb x 9) (k ∷ j ∷ []) [])
 
 -- the clean sheet of what is stated, or the refusal
 abbrev pub told : Outcome → List ℕ

@@ -1,12 +1,11 @@
 //! What the program prints.
 ghost use mathlib.Core.Path.{_≡_};
-ghost use mathlib.Core.List.{_++_};
 ghost use Rattle.std.specs.Of.Vec.{vec-items};
 ghost use Rattle.std.specs.Results.{Cases};
 ghost use Rattle.std.specs.Vec.{made};
 ghost use Rattle.graph.specs.Refusals.{number};
-ghost use Rattle.printout.specs.Printed.{Prints, place, printed, refusal};
-use fields::write_number;
+ghost use Rattle.printout.specs.Printed.{Prints, printed, refusal};
+use fields::write_fields;
 use graph::refusal::Refusal;
 use lines::Fault;
 use sheets::rewrite;
@@ -17,7 +16,7 @@ use std::alloc::Global;
 pub const LIMIT: usize = 65536;
 
 // The stock as a clean sheet, or the fault.
-fn clean<'a>(heap: Global, input: &'a [u8]) -> Result<Vec<u8>, Fault<'a>>
+fn rewritten<'a>(heap: Global, input: &'a [u8]) -> Result<Vec<u8>, Fault<'a>>
     ensures { λ r. ⌜ Cases r (λ v. vec-items v ≡ printed (now (input .entry))) (λ f. Prints (now (input .entry)) (refusal (number (f .refusal)) (f .line) (f .field))) ⌝ }
 {
     if input.len() > LIMIT {
@@ -32,38 +31,29 @@ fn clean<'a>(heap: Global, input: &'a [u8]) -> Result<Vec<u8>, Fault<'a>>
     Ok(text)
 }
 
-// Where a fault is.
-fn write_place(out: &mut Vec<u8>, line: usize, field: usize) -> Result<(), AllocError>
-    ensures { λ r. ⌜ made r (λ _. vec-items (now (out .exit)) ≡ vec-items (now (out .entry)) ++ place line field) ⌝ }
-{
-    out.push(b'\t')?;
-    write_number(out, line as u64)?;
-    out.push(b'\t')?;
-    write_number(out, field as u64)?;
-    Ok(())
-}
-
-// The line of a refusal.
-fn write_refusal(heap: Global, fault: &Fault) -> Result<Vec<u8>, AllocError>
+/// The line of a refusal.
+pub fn write_refusal(heap: Global, fault: &Fault) -> Result<Vec<u8>, AllocError>
     ensures { λ r. ⌜ made r (λ v. vec-items v ≡ refusal (number (now (fault .entry) .refusal)) (now (fault .entry) .line) (now (fault .entry) .field)) ⌝ }
 {
     let mut out = Vec::new(heap);
-    let code = fault.refusal.number();
-    out.push(b'x')?;
-    out.push(b'\t')?;
-    write_number(&mut out, code as u64)?;
+    let code = fault.refusal.number() as u64;
     if code == 9 {
-        write_place(&mut out, fault.line, fault.field)?;
+        write_fields(
+            &mut out,
+            b'x',
+            &[code, fault.line as u64, fault.field as u64],
+        )?;
+    } else {
+        write_fields(&mut out, b'x', &[code])?;
     }
-    out.push(b'\n')?;
     Ok(out)
 }
 
 /// The whole printout for what was read: the stock as a clean sheet, or the line of a refusal.
-pub fn respond(heap: Global, input: &[u8]) -> Result<Vec<u8>, AllocError>
+pub fn clean_sheet(heap: Global, input: &[u8]) -> Result<Vec<u8>, AllocError>
     ensures { λ r. ⌜ made r (λ v. Prints (now (input .entry)) (vec-items v)) ⌝ }
 {
-    match clean(heap, input) {
+    match rewritten(heap, input) {
         Ok(text) => Ok(text),
         Err(fault) => write_refusal(heap, &fault),
     }

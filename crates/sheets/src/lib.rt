@@ -5,5 +5,6 @@ mod rounds;
 
 pub use loading::load;
 pub use loading::read;
+pub use loading::unplaced;
 pub use rounds::reread;
 pub use rounds::rewrite;

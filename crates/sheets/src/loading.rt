@@ -18,8 +18,8 @@ use reading::read_edges;
 use sources::list_form::ListForm;
 use std::alloc::Global;
 
-// A fault of no line.
-pub(crate) fn unplaced<'a>(refusal: Refusal) -> Fault<'a>
+/// A fault of no line.
+pub fn unplaced<'a>(refusal: Refusal) -> Fault<'a>
     ensures refusal { λ f. ⌜ f .refusal ≡ refusal ⌝ }
     ensures line { λ f. ⌜ f .line ≡ 0 ⌝ }
     ensures field { λ f. ⌜ f .field ≡ 0 ⌝ }

@@ -9,6 +9,7 @@ use native.Mathlib.Omega.{arith}
 use lib.Dec.{ltb}
 use lib.ListN.{length, getD, take, drop}
 use Rattle.std.specs.Written.{decimal}
+use Rattle.fields.specs.Rows.{tabbed, numbers-line}
 use Rattle.std.specs.shelf.Lists.{joined}
 use Rattle.std.proofs.shelf.Lists.{append-assoc, append-nil, joined-more, take-more, take-all, length-take-le, length-drop, getD-take, getD-drop, map-append, same-lists, getD-default}
 use Rattle.std.proofs.shelf.Tests.{cases-bool, lt-ltb, le-ltb}
@@ -126,9 +127,8 @@ pub all-written : (n m : ℕ) (es : List Edge) (out x1 x2 : List ℕ) → m ≡ 
 all-written n m es out x1 x2 k e a b =
     b ∙ ap (λ x. x ++ 10 ∷ []) (a ∙ ap (λ x. x ++ 101 ∷ []) (e ∙ ap (λ (i : ℕ). row 115 n i ++ joined edge-row es) k)) ∙ simp append-assoc
 
-pub line-pushed : (was x1 x2 x3 x4 x5 x6 : List ℕ) (c a b : ℕ) → x1 ≡ was ++ c ∷ [] → x2 ≡ x1 ++ 9 ∷ [] → x3 ≡ x2 ++ decimal a → x4 ≡ x3 ++ 9 ∷ [] → x5 ≡ x4 ++ decimal b → x6 ≡ x5 ++ 10 ∷ [] → x6 ≡ was ++ row c a b
-line-pushed was x1 x2 x3 x4 x5 x6 c a b e1 e2 e3 e4 e5 e6 =
-    e6 ∙ ap (λ x. x ++ 10 ∷ []) (e5 ∙ ap (λ x. x ++ decimal b) (e4 ∙ ap (λ x. x ++ 9 ∷ []) (e3 ∙ ap (λ x. x ++ decimal a) (e2 ∙ ap (λ x. x ++ 9 ∷ []) e1)))) ∙ simp append-assoc
+pub line-row : (was out : List ℕ) (c a b : ℕ) → out ≡ was ++ numbers-line c (a ∷ b ∷ []) → out ≡ was ++ row c a b
+line-row was out c a b e = e ∙ ap (λ x. was ++ (c ∷ 9 ∷ x)) (append-assoc (decimal a) (tabbed b ++ []) (10 ∷ []) ∙ ap (λ y. decimal a ++ (y ++ 10 ∷ [])) (append-nil (tabbed b)))
 
 -- the size line and all rows
 pub all-rows : (g : Graph) (a n m : ℕ) (none start out : List ℕ) → none ≡ [] → start ≡ none ++ row 115 n m → out ≡ start ++ joined edge-row (edges-below g a) → a ≡ g .size → out ≡ row 115 n m ++ joined edge-row (edge-list g)

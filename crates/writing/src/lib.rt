@@ -9,7 +9,7 @@ ghost use Rattle.graph.specs.Edges.{edges-at, edge-list};
 ghost use Rattle.rows.specs.Rows.{Sound, listed, rows};
 ghost use Rattle.grammar.specs.Sheet.{row, written, edge-row};
 ghost use Rattle.writing.specs.Upper.{upper};
-use fields::write_number;
+use fields::write_fields;
 use sources::list_form::ListForm;
 use std::alloc::AllocError;
 use std::alloc::Global;
@@ -18,12 +18,7 @@ use std::alloc::Global;
 fn write_line(out: &mut Vec<u8>, letter: u8, a: u64, b: u64) -> Result<(), AllocError>
     ensures { λ r. ⌜ made r (λ _. vec-items (now (out .exit)) ≡ vec-items (now (out .entry)) ++ row letter a b) ⌝ }
 {
-    out.push(letter)?;
-    out.push(b'\t')?;
-    write_number(out, a)?;
-    out.push(b'\t')?;
-    write_number(out, b)?;
-    out.push(b'\n')?;
+    write_fields(out, letter, &[a, b])?;
     Ok(())
 }
 

@@ -1,20 +1,15 @@
 use mathlib.Core.Path.{_≡_, sym, _∙_, ap}
-use mathlib.Core.List.{List, _∷_, _++_}
-use Prim.Native.Nat.{ℕ}
 use Rattle.std.specs.Of.Vec.{vec-items}
-use Rattle.std.specs.Written.{decimal}
 use Rattle.graph.specs.Refusals.{number}
-use Rattle.printout.proofs.Prints.{begun, ended-nine, ended-other}
+use Rattle.printout.proofs.Prints.{nine-line, other-line}
 use Rattle.printout.proofs.write_refusal.Needs as need
-use Rattle.printout.proofs.write_refusal.Needs.{then-code-eq9·in-Continue-write-place, else-code-eq9}
+use Rattle.printout.proofs.write_refusal.Needs.{then-code-eq9·in-Continue-write-fields, else-code-eq9·in-Continue-write-fields-2}
 
 pub returns : need.returns
 returns c =
     let f = c .args .fault .now in
     let x = number (f .refusal) in
-    let e : c .number-code .result ≡ x = c .number-code .ensures in
-    let b = begun _ _ _ _ x (c .new-out .ensures .items) (c .in-Continue-push .ensures tt .items) (c .in-Continue-push-2 .ensures tt .items) (c .in-Continue-write-number .ensures tt ∙ ap (λ (n : ℕ). vec-items (c .push-2 .last .self) ++ decimal n) e) in
     elim (c .if-code-eq9 .came) [
-      | then-code-eq9·in-Continue-write-place w ↦ ended-nine _ _ _ x (f .line) (f .field) b (ap (λ v. vec-items v) (w .out-is) ∙ w .in-Continue-write-place .ensures tt) (sym e ∙ w .if-code-eq9 .taken) (c .in-Continue-push-3 .ensures tt .items)
-      | else-code-eq9 w ↦ ended-other _ _ _ x (f .line) (f .field) b (ap (λ v. vec-items v) (w .out-is)) (λ h. w .if-code-eq9 .left (e ∙ h)) (c .in-Continue-push-3 .ensures tt .items)
+      | then-code-eq9·in-Continue-write-fields w ↦ nine-line _ _ x (f .line) (f .field) _ (c .new-out .ensures .items) (c .number-code .ensures) (sym (c .number-code .ensures) ∙ w .if-code-eq9 .taken) (ap (λ v. vec-items v) (w .out-is) ∙ w .in-Continue-write-fields .ensures tt)
+      | else-code-eq9·in-Continue-write-fields-2 w ↦ other-line _ _ x (f .line) (f .field) _ (c .new-out .ensures .items) (c .number-code .ensures) (λ h. w .if-code-eq9 .left (c .number-code .ensures ∙ h)) (ap (λ v. vec-items v) (w .out-is) ∙ w .in-Continue-write-fields-2 .ensures tt)
     ]
