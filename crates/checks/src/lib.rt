@@ -8,4 +8,6 @@ mod laid;
 #[cfg(test)]
 mod lists;
 #[cfg(test)]
+mod plans;
+#[cfg(test)]
 mod program;
