@@ -1,3 +1,4 @@
 pub mod Graph
 pub mod Edges
+pub mod Hiding
 pub mod Refusals
