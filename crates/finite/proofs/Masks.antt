@@ -8,11 +8,11 @@ use native.Mathlib.Omega.{arith}
 use lib.Dec.{eqb, ltb}
 use lib.Bits.{bitAnd, bitOr, bitXor, and-shr, or-shr, xor-shr, and-step, or-step, xor-add-and, and-le-l, and-mask}
 use lib.Pow.{pow-mono}
-use lib.Count.{ones, ones-step, ones-le, trailingZeros}
-use Rattle.std.proofs.shelf.Bits.{shr-shr, shr-below, pow-pos, pow-below, one-shl}
+use lib.Count.{ones, ones-step, ones-le, trailingZeros, under}
+use Rattle.std.proofs.shelf.Bits.{shr-shr, shr-below, pow-pos, pow-below, one-shl, or-lt}
 use Rattle.std.proofs.shelf.Tests.{cases-bool, cases-eq, cases-lt, eq-eqb, ne-eqb, eqb-true, eqb-false, lt-ltb, le-ltb, both-ways}
 use Rattle.std.proofs.shelf.Ways.{tells}
-use Rattle.finite.specs.Masks.{bit}
+use Rattle.finite.specs.Masks.{bit, mask}
 use Rattle.finite.specs.Finite.{any, count}
 use Rattle.finite.proofs.Counts.{any-true, any-false, count-same}
 use Rattle.finite.proofs.Splits.{count-front}
@@ -200,3 +200,57 @@ without-less m i l f t =
 
     off : (j : ℕ) → (j ≡ i → ⊥) → (bit m j && eqb j i) ≡ eqb j i
     off j ne = rw (ne-eqb j i ne) (grind (arith, cases-bool (bit m j)))
+
+-- no member is below the lowest
+pub lowest-least : (k m i : ℕ) → i < trailingZeros k m → bit m i ≡ false
+unfolding trailingZeros
+lowest-least zero m i h = absurd (omega arith)
+lowest-least (suc k) m i h = go (m % 2) refl i h (λ j. lowest-least k (m / 2) j)
+  where
+    go : (r : ℕ) → m % 2 ≡ r → (i : ℕ) → i < under r (trailingZeros k (m / 2)) → ((j : ℕ) → j < trailingZeros k (m / 2) → bit (m / 2) j ≡ false) → bit m i ≡ false
+    go zero e zero l ih = bit-low m ∙ ap (λ (x : ℕ). eqb x 1) e
+    go zero e (suc i) l ih = bit-up m i ∙ ih i (omega arith)
+    go (suc r) e i l ih = absurd (omega arith)
+
+-- the members of the first that are not in the second
+pub bit-minus : (a b j : ℕ) → bit (bitXor a (bitAnd a b)) j ≡ (bit a j && not (bit b j))
+bit-minus a b j =
+    bit-xor a (bitAnd a b) j ∙ ap (λ (v : Bool). cond v (not (bit a j)) (bit a j)) (bit-and a b j) ∙ grind (arith, cases-bool (bit a j), cases-bool (bit b j))
+
+-- a mask with no member is 0
+pub bit-none : (m j : ℕ) → m ≡ 0 → bit m j ≡ false
+bit-none m j e = ap (λ (x : ℕ). bit x j) e ∙ bit-zero j
+
+-- the mask of a set
+pub mask-lt : (t : ℕ → Bool) (n : ℕ) → mask t n < 2 ^ n
+unfolding mask
+mask-lt t zero = omega arith
+mask-lt t (suc n) =
+    let h = mask-lt t n in
+    let p = pow-suc 2 n in
+    let q = pow-below n (suc n) (omega arith) in
+    elim (cases-bool (t n)) [
+      | inl y ↦ rw y (or-lt (suc n) (mask t n) (2 ^ n) (omega arith) q)
+      | inr y ↦ rw y (omega arith)
+    ]
+
+pub bit-mask : (t : ℕ → Bool) (n j : ℕ) → bit (mask t n) j ≡ (ltb j n && t j)
+unfolding mask
+bit-mask t zero j = bit-zero j ∙ sym (rw (le-ltb j 0 (omega arith)) refl)
+bit-mask t (suc n) j =
+    let h = bit-mask t n j in
+    elim (cases-bool (t n)) [
+      | inl y ↦ rw (y, bit-with, h) (elim (cases-eq j n) [ inl e ↦ rw (e, y) (grind (arith, tells)) | inr e ↦ grind (arith, tells) ])
+      | inr y ↦ rw (y, h) (elim (cases-eq j n) [ inl e ↦ rw (e, y) (grind (arith, tells)) | inr e ↦ grind (arith, tells) ])
+    ]
+
+-- a number whose members are those of the set is its mask
+pub mask-is : (k r : ℕ) (t : ℕ → Bool) → r < 2 ^ k → ((j : ℕ) → bit r j ≡ t j) → r ≡ mask t k
+mask-is k r t l h =
+    bit-ext k r (mask t k) l (mask-lt t k) (λ j. elim (cases-lt j k) [
+      | inl m ↦ h j ∙ sym (bit-mask t k j ∙ rw (lt-ltb j k m) refl)
+      | inr m ↦ elim (cases-bool (bit r j)) [
+        | inl y ↦ let z = bit-within k r j l y in absurd (omega arith)
+        | inr y ↦ y ∙ sym (bit-mask t k j ∙ rw (le-ltb j k m) refl)
+      ]
+    ])

@@ -1,12 +1,12 @@
--- More laws of `count`: a set in two parts, and a set with one member more.
+-- More laws of `count` and `any`: a set in two parts, a set with one member at most.
 use mathlib.Core.Path.{_≡_, refl, sym, ap, _∙_}
 use mathlib.Core.Bool.{Bool, true, false, cond, _&&_, not}
 use mathlib.Core.Logic.{_⊎_, inl, inr, ⊎-elim}
 use Prim.Native.Nat.{ℕ, zero, suc, _+_, _≤_, _<_}
 use native.Mathlib.Omega.{arith}
-use Rattle.std.proofs.shelf.Tests.{cases-bool, cases-eq}
-use Rattle.finite.specs.Finite.{count}
-use Rattle.finite.proofs.Counts.{count-same, count-empty}
+use Rattle.std.proofs.shelf.Tests.{cases-bool, cases-eq, both-ways}
+use Rattle.finite.specs.Finite.{any, count}
+use Rattle.finite.proofs.Counts.{count-same, count-empty, any-false}
 
 pub count-split : (p r : ℕ → Bool) (n : ℕ) → count p n ≡ count (λ i. p i && r i) n + count (λ i. p i && not (r i)) n
 unfolding count
@@ -35,3 +35,7 @@ count-front p zero = grind (arith, cases-bool (p 0))
 count-front p (suc n) =
     let ih = count-front p n in
     grind (arith, cases-bool (p (suc n)), cases-bool (p 0))
+
+pub any-from : (p : ℕ → Bool) (n c : ℕ) → c < n → p c ≡ true → any p n ≡ true
+any-from p n c l e =
+    elim (cases-bool (any p n)) [ inl y ↦ y | inr y ↦ absurd (both-ways (p c) (any-false p n y c l) e) ]

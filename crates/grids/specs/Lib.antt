@@ -1,0 +1,3 @@
+pub mod Grid
+pub mod Classes
+pub mod Largest
