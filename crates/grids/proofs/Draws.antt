@@ -8,16 +8,8 @@ use native.Mathlib.Omega.{arith}
 use lib.Dec.{eqb, ltb}
 use Rattle.std.proofs.shelf.Tests.{cases-bool, cases-eq, eq-eqb, eqb-true, or-cases, and-parts, and-right, both-ways}
 use Rattle.std.proofs.shelf.Ways.{tells}
-use Rattle.grids.specs.Grid.{linked}
+use Rattle.grids.specs.Draws.{covered, Drawn}
 use Rattle.grids.proofs.Joins.{ends}
-
--- whether a and b are both below i, or one is i and the other below j
-abbrev pub covered : ℕ → ℕ → ℕ → ℕ → Bool
-covered i j a b = (ltb a i && ltb b i) || ((eqb a i && ltb b j) || (eqb b i && ltb a j))
-
--- the pairs so far are joined where e says so
-abbrev pub Drawn : (ℕ → ℕ → Bool) → (ℕ → ℕ → Bool) → ℕ → ℕ → Type 0
-Drawn e joined i j = (a b : ℕ) → joined a b ≡ (covered i j a b && e a b)
 
 covered-more : (i j a b : ℕ) → covered i (j + 1) a b ≡ (covered i j a b || ends i j a b)
 covered-more i j a b =
