@@ -5,3 +5,4 @@ pub mod Walks
 pub mod Draws
 pub mod Largest
 pub mod Parts
+pub mod Pairs

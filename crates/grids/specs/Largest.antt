@@ -29,6 +29,10 @@ qualifies u w r s = leb r (u s) && leb s (w r)
 abbrev pub largest : (ℕ → ℕ) → (ℕ → ℕ) → ℕ
 largest u w = most (λ s. most (λ r. cond (qualifies u w r s) (r + s) 0) 65) 65
 
+-- how many numbers of a list are s or more
+abbrev pub at-least : List ℕ → ℕ → ℕ
+at-least ts s = count (λ k. leb s (getD ts k 0)) (length ts)
+
 -- the largest degree in a class
 abbrev pub top : (ℕ → ℕ) → ℕ → ℕ
 top degree class = most (λ i. cond (bit class i) (degree i) 0) 64

@@ -21,7 +21,7 @@ returns g c =
     let J = joined (c .loop-i .picture) in
     let end : c .loop-i .i ≡ length (c .args .chosen .now) = omega arith in
     record {
-      few = c .if-chosen-gt64 .left;
+      few = omega arith;
       size = c .loop-i .inv .0;
       joins = drawn-all E J (length (c .args .chosen .now)) (subst (λ (k : ℕ). Drawn E J k 0) end (c .loop-i .inv .1));
     }
