@@ -1,7 +1,7 @@
 -- Laws of `bit`: a mask as the set of its places.
 use mathlib.Core.Path.{_≡_, refl, sym, ap, _∙_}
 use mathlib.Core.Bool.{Bool, true, false, cond, _&&_, _||_, not}
-use mathlib.Core.Logic.{_⊎_, inl, inr, ⊎-elim}
+use mathlib.Core.Logic.{inl, inr, ⊎-elim}
 use Prim.Native.Nat.{ℕ, zero, suc, _+_, _-_, _*_, _/_, _%_, _^_, min, max, _≤_, _<_}
 use native.Mathlib.Nat.{pow-suc}
 use native.Mathlib.Omega.{arith}
@@ -145,21 +145,21 @@ bit-ext (suc k) a b l m h =
     same-test u v x y e = grind (arith, tells)
 
 -- two masks share a place exactly when what they have in common is not 0
-pub meet-none : (a b : ℕ) → bitAnd a b ≡ 0 → any (λ j. bit a j && bit b j) 64 ≡ false
-meet-none a b e =
-    elim (cases-bool (any (λ j. bit a j && bit b j) 64)) [
+pub meet-none : (k a b : ℕ) → bitAnd a b ≡ 0 → any (λ j. bit a j && bit b j) k ≡ false
+meet-none k a b e =
+    elim (cases-bool (any (λ j. bit a j && bit b j) k)) [
       | inr y ↦ y
-      | inl y ↦ let r = any-true (λ j. bit a j && bit b j) 64 y in
+      | inl y ↦ let r = any-true (λ j. bit a j && bit b j) k y in
           absurd (both-ways (bit 0 (r .0)) (bit-zero (r .0)) (ap (λ (m : ℕ). bit m (r .0)) (sym e) ∙ bit-and a b (r .0) ∙ r .2))
     ]
 
-pub meet-some : (a b : ℕ) → a < 2 ^ 64 → 0 < bitAnd a b → any (λ j. bit a j && bit b j) 64 ≡ true
-meet-some a b l h =
-    elim (cases-bool (any (λ j. bit a j && bit b j) 64)) [
+pub meet-some : (k a b : ℕ) → a < 2 ^ k → 0 < bitAnd a b → any (λ j. bit a j && bit b j) k ≡ true
+meet-some k a b l h =
+    elim (cases-bool (any (λ j. bit a j && bit b j) k)) [
       | inl y ↦ y
-      | inr y ↦ let w = bit-lowest 64 (bitAnd a b) h (omega (arith, and-le-l a b)) in
-          let t = trailingZeros 64 (bitAnd a b) in
-          absurd (both-ways (bit a t && bit b t) (any-false (λ j. bit a j && bit b j) 64 y t (w .0)) (sym (bit-and a b t) ∙ w .1))
+      | inr y ↦ let w = bit-lowest k (bitAnd a b) h (omega (arith, and-le-l a b)) in
+          let t = trailingZeros k (bitAnd a b) in
+          absurd (both-ways (bit a t && bit b t) (any-false (λ j. bit a j && bit b j) k y t (w .0)) (sym (bit-and a b t) ∙ w .1))
     ]
 
 pub meet-both : (a b j : ℕ) → (bit a j && bit b j) ≡ (bit b j && bit a j)
@@ -186,11 +186,11 @@ bit-without m i t j = bit-xor m (2 ^ i) j ∙ ap (λ b. cond b (not (bit m j)) (
     off ne = rw (ne-eqb j i ne) (grind (arith, cases-bool (bit m j)))
 
 -- taking a member out makes the number smaller
-pub without-less : (m i : ℕ) → i < 64 → m < 2 ^ 64 → bit m i ≡ true → bitXor m (2 ^ i) < m
-without-less m i l f t =
-    let pl = pow-below i 64 l in
+pub without-less : (k m i : ℕ) → i < k → m < 2 ^ k → bit m i ≡ true → bitXor m (2 ^ i) < m
+without-less k m i l f t =
+    let pl = pow-below i k l in
     let al = and-le-l m (2 ^ i) in
-    let same : bitAnd m (2 ^ i) ≡ 2 ^ i = bit-ext 64 (bitAnd m (2 ^ i)) (2 ^ i) (omega arith) pl (λ j. bit-and m (2 ^ i) j ∙ ap (λ b. bit m j && b) (bit-power i j) ∙ ⊎-elim (at j) (off j) (cases-eq j i) ∙ sym (bit-power i j)) in
+    let same : bitAnd m (2 ^ i) ≡ 2 ^ i = bit-ext k (bitAnd m (2 ^ i)) (2 ^ i) (omega arith) pl (λ j. bit-and m (2 ^ i) j ∙ ap (λ b. bit m j && b) (bit-power i j) ∙ ⊎-elim (at j) (off j) (cases-eq j i) ∙ sym (bit-power i j)) in
     let s = xor-add-and m (2 ^ i) in
     let p = pow-pos i in
     omega arith

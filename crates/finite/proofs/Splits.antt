@@ -1,12 +1,12 @@
 -- More laws of `count` and `any`: a set in two parts, a set with one member at most.
-use mathlib.Core.Path.{_≡_, refl, sym, ap, _∙_}
+use mathlib.Core.Path.{_≡_, refl}
 use mathlib.Core.Bool.{Bool, true, false, cond, _&&_, not}
-use mathlib.Core.Logic.{_⊎_, inl, inr, ⊎-elim}
+use mathlib.Core.Logic.{inl, inr, ⊎-elim}
 use Prim.Native.Nat.{ℕ, zero, suc, _+_, _≤_, _<_}
 use native.Mathlib.Omega.{arith}
-use Rattle.std.proofs.shelf.Tests.{cases-bool, cases-eq, both-ways}
+use Rattle.std.proofs.shelf.Tests.{cases-bool, both-ways}
 use Rattle.finite.specs.Finite.{any, count}
-use Rattle.finite.proofs.Counts.{count-same, count-empty, any-false}
+use Rattle.finite.proofs.Counts.{count-empty, any-false}
 
 pub count-split : (p r : ℕ → Bool) (n : ℕ) → count p n ≡ count (λ i. p i && r i) n + count (λ i. p i && not (r i)) n
 unfolding count

@@ -1,21 +1,20 @@
 -- The walk of the class bound is sound: each class holds at most one member of a clique.
 use mathlib.Core.Path.{_≡_, refl, sym, ap, _∙_}
 use mathlib.Core.Bool.{Bool, true, false, cond, _&&_, _||_, not}
-use mathlib.Core.Logic.{_⊎_, inl, inr, ⊎-elim}
+use mathlib.Core.Logic.{⊎-elim}
 use mathlib.Core.List.{List, [], _∷_, _++_}
-use Prim.Native.Nat.{ℕ, zero, suc, _+_, _^_, _≤_, _<_}
-use native.Mathlib.Numerals.{one-add, add-one}
+use Prim.Native.Nat.{ℕ, zero, suc, _^_, _≤_, _<_}
+use native.Mathlib.Numerals.{one-add}
 use native.Mathlib.Omega.{arith}
 use lib.Bits.{bitAnd, bitOr}
 use lib.Dec.{eqb}
-use lib.ListN.{length, getD, set, take}
+use lib.ListN.{length, getD, set}
 use Rattle.std.specs.shelf.Lists.{All}
 use Rattle.std.proofs.shelf.Elements.{all-getD}
-use Rattle.std.proofs.shelf.Tests.{cases-bool, cases-eq, eqb-true, eq-eqb, and-parts, and-from, or-cases, or-right, both-ways, not-true}
-use Rattle.std.proofs.shelf.Ways.{tells}
+use Rattle.std.proofs.shelf.Tests.{cases-bool, cases-eq, eqb-true, eq-eqb, and-parts, or-cases, or-right, both-ways, not-true}
 use Rattle.finite.specs.Finite.{any, count}
 use Rattle.finite.specs.Masks.{bit}
-use Rattle.finite.proofs.Counts.{count-empty, count-le, any-false}
+use Rattle.finite.proofs.Counts.{count-empty, count-le}
 use Rattle.finite.proofs.Splits.{count-one, count-split, count-front, any-from}
 use Rattle.finite.proofs.Masks.{bit-and, bit-zero, bit-power, bit-with}
 use Rattle.grids.specs.Grid.{linked, Even, Loopless}
@@ -163,3 +162,23 @@ classes-full rows m (suc n) l = go (bit m n) (classes-full rows m n (omega arith
 
 pub classes-some : (rows : List ℕ) (m n k : ℕ) → n ≤ 64 → k < length (classes rows m n) → any (bit (getD (classes rows m n) k 0)) 64 ≡ true
 classes-some rows m n k l h = all-getD Full (classes rows m n) k 0 h (classes-full rows m n l)
+
+-- ---- there are at most as many classes as places
+
+put-few : (row i : ℕ) (cs : List ℕ) → length (put row i cs) ≤ suc (length cs)
+unfolding put
+put-few row i [] = omega arith
+put-few row i (c ∷ cs) = go (eqb (bitAnd c row) 0) (put-few row i cs)
+  where
+    go : (b : Bool) → length (put row i cs) ≤ suc (length cs) → length (cond b (bitOr c (2 ^ i) ∷ cs) (c ∷ put row i cs)) ≤ suc (suc (length cs))
+    go true ih = omega arith
+    go false ih = omega arith
+
+pub classes-few : (rows : List ℕ) (m n : ℕ) → length (classes rows m n) ≤ n
+unfolding walk
+classes-few rows m zero = omega arith
+classes-few rows m (suc n) = go (bit m n) (classes-few rows m n)
+  where
+    go : (b : Bool) → length (classes rows m n) ≤ n → length (cond b (put (getD rows n 0) n (classes rows m n)) (classes rows m n)) ≤ suc n
+    go true ih = let h = put-few (getD rows n 0) n (classes rows m n) in omega arith
+    go false ih = omega arith

@@ -1,12 +1,11 @@
 -- Rows that are drawn pair by pair: place i with each place below it, for each i in turn.
 use mathlib.Core.Path.{_≡_, refl, sym, ap, _∙_}
 use mathlib.Core.Bool.{Bool, true, false, _&&_, _||_}
-use mathlib.Core.Logic.{_⊎_, inl, inr, ⊎-elim}
-use mathlib.Core.List.{List}
-use Prim.Native.Nat.{ℕ, _+_, _<_, _≤_}
+use mathlib.Core.Logic.{inl, inr}
+use Prim.Native.Nat.{ℕ, _+_}
 use native.Mathlib.Omega.{arith}
 use lib.Dec.{eqb, ltb}
-use Rattle.std.proofs.shelf.Tests.{cases-bool, cases-eq, eq-eqb, eqb-true, or-cases, and-parts, and-right, both-ways}
+use Rattle.std.proofs.shelf.Tests.{cases-bool, cases-eq, eqb-true, or-cases, and-parts, and-right}
 use Rattle.std.proofs.shelf.Ways.{tells}
 use Rattle.grids.specs.Draws.{covered, Drawn}
 use Rattle.grids.proofs.Joins.{ends}

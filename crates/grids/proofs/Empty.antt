@@ -1,7 +1,6 @@
 -- Rows of zeros join nothing.
 use mathlib.Core.Path.{_≡_, refl, ap, _∙_}
 use mathlib.Core.Bool.{false}
-use mathlib.Core.List.{List, []}
 use Prim.Native.Nat.{ℕ, zero, suc}
 use lib.ListN.{getD, replicate}
 use Rattle.finite.specs.Masks.{bit}

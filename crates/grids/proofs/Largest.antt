@@ -1,19 +1,17 @@
 -- Largest values, and the largest pair that qualifies.
 use mathlib.Core.Path.{_≡_, refl, sym, ap, _∙_}
-use mathlib.Core.Bool.{Bool, true, false, cond, _&&_, _||_, not}
-use mathlib.Core.Logic.{_⊎_, inl, inr, ⊎-elim}
-use mathlib.Core.List.{List}
+use mathlib.Core.Bool.{Bool, true, false, cond, _&&_}
+use mathlib.Core.Logic.{inl, inr}
 use Prim.Native.Nat.{ℕ, zero, suc, _+_, max, _≤_, _<_}
 use native.Mathlib.Numerals.{add-one}
 use native.Mathlib.Omega.{arith}
-use lib.Dec.{eqb, ltb, leb}
-use lib.ListN.{length, getD}
-use Rattle.std.proofs.shelf.Tests.{cases-bool, cases-eq, cases-lt, le-leb, lt-leb, leb-true, leb-false, and-parts, and-from, and-left, and-right, both-ways, cond-true, cond-false}
-use Rattle.finite.specs.Finite.{any, count}
+use lib.Dec.{leb}
+use Rattle.std.proofs.shelf.Tests.{cases-bool, cases-eq, cases-lt, le-leb, lt-leb, leb-true, and-parts, and-from, cond-true, cond-false}
+use Rattle.finite.specs.Finite.{any}
 use Rattle.finite.specs.Masks.{bit}
-use Rattle.finite.proofs.Counts.{any-true, any-false, count-same, count-le}
+use Rattle.finite.proofs.Counts.{any-true}
 use Rattle.finite.proofs.Splits.{any-from}
-use Rattle.grids.specs.Largest.{most, reaches, reaching, qualifies, largest, top}
+use Rattle.grids.specs.Largest.{most, reaches, qualifies, Is-largest, largest, top}
 
 pub most-none : (f : ℕ → ℕ) → most f 0 ≡ 0
 unfolding most
@@ -87,9 +85,6 @@ top-reaches degree s class some =
       | inr l ↦ le-leb s (top degree class) l ∙ sym (one l)
     ]
   where
-    value : ℕ → ℕ
-    value i = cond (bit class i) (degree i) 0
-
     none : top degree class < s → reaches degree s class ≡ false
     none l =
         elim (cases-bool (reaches degree s class)) [
@@ -135,6 +130,17 @@ largest-at u w =
       | inl y ↦ let c = cond-true (qualifies u w r s) (r + s) 0 y in (r, s, y, omega (arith, a .2, b .2))
       | inr y ↦ let c = cond-false (qualifies u w r s) (r + s) 0 y in (0, 0, and-from (leb 0 (u 0)) (leb 0 (w 0)) (le-leb 0 (u 0) (omega arith)) (le-leb 0 (w 0) (omega arith)), omega (arith, a .2, b .2))
     ]
+
+-- where neither part has more than 64 classes, no pair is left out
+pub largest-is : (u w : ℕ → ℕ) → ((s : ℕ) → u s ≤ 64) → ((r : ℕ) → w r ≤ 64) → Is-largest u w (largest u w)
+largest-is u w f g =
+    record {
+      least = λ r s y. let h = and-parts (leb r (u s)) (leb s (w r)) y in
+          let a = leb-true r (u s) (h .0) in
+          let b = leb-true s (w r) (h .1) in
+          largest-ge u w r s (omega (arith, f s)) (omega (arith, g r)) y;
+      reached = largest-at u w;
+    }
 
 pub largest-le : (u w : ℕ → ℕ) → largest u w ≤ 128
 largest-le u w =

@@ -1,14 +1,14 @@
 -- The largest pair that qualifies, from the largest degree of each class.
 use mathlib.Core.Path.{_≡_, refl, sym, ap, _∙_}
-use mathlib.Core.Bool.{Bool, true, false, cond, _&&_, not}
-use mathlib.Core.Logic.{_⊎_, inl, inr}
+use mathlib.Core.Bool.{Bool, true, cond, _&&_, not}
+use mathlib.Core.Logic.{inl, inr}
 use mathlib.Core.List.{List}
 use Prim.Native.Nat.{ℕ, _+_, max, _≤_, _<_}
 use native.Mathlib.Omega.{arith}
 use lib.Dec.{eqb, leb}
 use lib.ListN.{length, getD, take}
 use Rattle.std.proofs.shelf.Lists.{length-take-le, getD-take}
-use Rattle.std.proofs.shelf.Tests.{cases-bool, cases-lt, eq-eqb, ne-eqb, le-leb, lt-leb, leb-true, and-from, and-left, and-right, cond-true, cond-false}
+use Rattle.std.proofs.shelf.Tests.{cases-bool, cases-lt, eq-eqb, ne-eqb, le-leb, lt-leb, and-from, and-left, and-right, cond-true, cond-false}
 use Rattle.finite.specs.Finite.{any, count}
 use Rattle.finite.specs.Masks.{bit}
 use Rattle.finite.proofs.Counts.{count-same, count-le}

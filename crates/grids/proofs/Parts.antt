@@ -1,10 +1,10 @@
 -- A clique in two parts: its sizes in them qualify.
-use mathlib.Core.Path.{_≡_, refl, sym, ap, _∙_}
-use mathlib.Core.Bool.{Bool, true, false, _&&_, not}
+use mathlib.Core.Path.{_≡_}
+use mathlib.Core.Bool.{Bool, true, _&&_, not}
 use mathlib.Core.List.{List}
-use Prim.Native.Nat.{ℕ, _+_, _≤_, _<_}
+use Prim.Native.Nat.{ℕ, _≤_, _<_}
 use native.Mathlib.Omega.{arith}
-use lib.Dec.{ltb, leb}
+use lib.Dec.{leb}
 use lib.ListN.{length, getD}
 use Rattle.std.proofs.shelf.Tests.{le-leb, and-parts, and-from}
 use Rattle.finite.specs.Finite.{count}
@@ -13,9 +13,9 @@ use Rattle.finite.proofs.Counts.{count-le}
 use Rattle.finite.proofs.Splits.{count-split, any-from}
 use Rattle.grids.specs.Grid.{linked, Even, Loopless}
 use Rattle.grids.specs.Classes.{classes}
-use Rattle.grids.specs.Largest.{reaches, reaching, qualifies, largest}
-use Rattle.grids.proofs.Classes.{classes-cover}
-use Rattle.grids.proofs.Largest.{largest-ge}
+use Rattle.grids.specs.Largest.{reaches, reaching, qualifies, Is-largest, largest}
+use Rattle.grids.proofs.Classes.{classes-cover, classes-few}
+use Rattle.grids.proofs.Largest.{largest-ge, largest-is}
 
 module _ (rows : List ℕ) (even : Even rows) (loopless : Loopless rows) (n : ℕ) (small : n ≤ 64) where
   -- the members of a clique lie in different classes, so as many classes contain one
@@ -35,3 +35,14 @@ module _ (rows : List ℕ) (even : Even rows) (loopless : Loopless rows) (n : �
       let e = count-le (λ i. K i && not (t i)) 64 in
       let g = largest-ge (reaching du (classes rows u n)) (reaching dw (classes rows w n)) r s (omega arith) (omega arith) (and-from (leb r (reaching du (classes rows u n) s)) (leb s (reaching dw (classes rows w n) r)) (le-leb r _ a) (le-leb s _ b)) in
       omega arith
+
+-- no pair that qualifies is left out
+pub parts-largest : (rows : List ℕ) (n u w : ℕ) (du dw : ℕ → ℕ) → n ≤ 64 → Is-largest (reaching du (classes rows u n)) (reaching dw (classes rows w n)) (largest (reaching du (classes rows u n)) (reaching dw (classes rows w n)))
+parts-largest rows n u w du dw l =
+    largest-is (reaching du (classes rows u n)) (reaching dw (classes rows w n)) (few u du) (few w dw)
+  where
+    few : (m : ℕ) (degree : ℕ → ℕ) (s : ℕ) → reaching degree (classes rows m n) s ≤ 64
+    few m degree s =
+        let a = count-le (λ k. reaches degree s (getD (classes rows m n) k 0)) (length (classes rows m n)) in
+        let b = classes-few rows m n in
+        omega arith

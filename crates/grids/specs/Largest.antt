@@ -1,7 +1,8 @@
 -- Two lists of classes, a number for each place, and the largest pair of sizes that both allow.
+use mathlib.Core.Path.{_≡_}
 use mathlib.Core.List.{List}
-use mathlib.Core.Bool.{Bool, cond, _&&_}
-use Prim.Native.Nat.{ℕ, zero, suc, _+_, max}
+use mathlib.Core.Bool.{Bool, true, cond, _&&_}
+use Prim.Native.Nat.{ℕ, zero, suc, _+_, max, _≤_}
 use lib.Dec.{leb}
 use lib.ListN.{length, getD}
 use Rattle.finite.specs.Finite.{any, count}
@@ -25,7 +26,12 @@ reaching degree cs s = count (λ k. reaches degree s (getD cs k 0)) (length cs)
 abbrev pub qualifies : (ℕ → ℕ) → (ℕ → ℕ) → ℕ → ℕ → Bool
 qualifies u w r s = leb r (u s) && leb s (w r)
 
--- the largest r + s that qualifies, of at most 64 in each part
+-- x is the largest r + s that qualifies
+pub record Is-largest (u w : ℕ → ℕ) (x : ℕ) : Type 0 where
+  pub least : (r s : ℕ) → qualifies u w r s ≡ true → r + s ≤ x
+  pub reached : (r : ℕ) × (s : ℕ) × (qualifies u w r s ≡ true) × (r + s ≡ x)
+
+-- the largest r + s that qualifies, where at most 64 are allowed in each part
 abbrev pub largest : (ℕ → ℕ) → (ℕ → ℕ) → ℕ
 largest u w = most (λ s. most (λ r. cond (qualifies u w r s) (r + s) 0) 65) 65
 

@@ -1,20 +1,19 @@
 -- Masks that share a job.
 use mathlib.Core.Path.{_≡_, refl, sym, _∙_, ap}
 use mathlib.Core.List.{List, []}
-use mathlib.Core.Bool.{Bool, true, false, _&&_, _||_, not, cond}
+use mathlib.Core.Bool.{Bool, true, false, _&&_, not}
 use mathlib.Core.Logic.{_⊎_, inl, inr}
-use Prim.Native.Nat.{ℕ, _+_, _*_, _^_, _<_, _≤_}
+use Prim.Native.Nat.{ℕ, _*_, _^_, _<_, _≤_}
 use native.Mathlib.Omega.{arith}
 use lib.Bits.{bitAnd}
 use lib.Dec.{ltb, eqb}
 use lib.ListN.{length, getD}
-use Rattle.std.proofs.shelf.Tests.{cases-bool, cases-eq, cases-lt, lt-ltb, le-ltb, ne-eqb, eq-eqb, eqb-true, or-from, or-left, or-right, or-parts, ltb-false, both-ways, and-right, and-left}
+use Rattle.std.proofs.shelf.Tests.{cases-bool, cases-eq, lt-ltb, le-ltb, ne-eqb, eq-eqb, or-from, or-left, or-right, or-parts, ltb-false}
 use Rattle.finite.specs.Finite.{any, count, pairs}
 use Rattle.finite.specs.Masks.{bit}
 use Rattle.finite.proofs.Masks.{meet-none, meet-some, meet-both}
-use Rattle.finite.proofs.Counts.{count-le, count-more}
-use Rattle.finite.proofs.Pairs.{pairs-none, pairs-more, pairs-le}
-use Rattle.graph.specs.Graph.{Graph, Lawful, held, clash, degree, edges}
+use Rattle.finite.proofs.Pairs.{pairs-le}
+use Rattle.graph.specs.Graph.{Graph, Lawful, clash, degree, edges}
 use Rattle.graph.proofs.Hiding.{unheld-degree}
 use Rattle.jobs.specs.Jobs.{share, sharing, big}
 
@@ -23,8 +22,8 @@ pub share-test : (x y : ℕ) → x < 2 ^ 64 → not (eqb (bitAnd x y) 0) ≡ sha
 unfolding share
 share-test x y l =
     elim (cases-eq (bitAnd x y) 0) [
-      | inl e ↦ rw (eq-eqb (bitAnd x y) 0 e) (sym (meet-none x y e))
-      | inr e ↦ rw (ne-eqb (bitAnd x y) 0 e) (sym (meet-some x y l (omega arith)))
+      | inl e ↦ rw (eq-eqb (bitAnd x y) 0 e) (sym (meet-none 64 x y e))
+      | inr e ↦ rw (ne-eqb (bitAnd x y) 0 e) (sym (meet-some 64 x y l (omega arith)))
     ]
 
 pub any-same : (p q : ℕ → Bool) (n : ℕ) → ((j : ℕ) → p j ≡ q j) → any p n ≡ any q n

@@ -1,5 +1,5 @@
 -- The two-part bound is sound over a sound bound.
-use mathlib.Core.Path.{_≡_, refl, sym, ap, _∙_}
+use mathlib.Core.Path.{_≡_, ap, _∙_}
 use mathlib.Core.Bool.{Bool, true, false, _&&_, not}
 use Prim.Native.Nat.{ℕ, _/_, _^_, _≤_, _<_}
 use native.Mathlib.Omega.{arith}
@@ -14,9 +14,6 @@ use Rattle.pictures.specs.declared.shape.Picture.{Picture}
 use Rattle.two_part.specs.TwoPart.{lower-part, upper-part, clique-degree, two-part}
 
 module _ (answer : Picture → ℕ → ℕ) (law : (p : Picture) (m : ℕ) (K : ℕ → Bool) → m < 2 ^ 64 → Clique p m K → count K 64 ≤ answer p m) (p : Picture) (m : ℕ) (K : ℕ → Bool) (k : Clique p m K) where
-  low : ℕ → Bool
-  low i = ltb i (places p / 2)
-
   member : (t : ℕ → Bool) (i : ℕ) → K i ≡ true → t i ≡ true → bit (mask t 64) i ≡ true
   member t i x y =
       bit-mask t 64 i ∙ and-from (ltb i 64) (t i) (lt-ltb i 64 (let h = k .placed i x in omega (arith, p .small))) y

@@ -1,13 +1,13 @@
 -- The masks and degrees of the code are those of the definition.
-use mathlib.Core.Path.{_≡_, refl, sym, ap, _∙_}
-use mathlib.Core.Bool.{Bool, true, false, _&&_, not}
+use mathlib.Core.Path.{_≡_, sym, ap, _∙_}
+use mathlib.Core.Bool.{Bool, _&&_, not}
 use mathlib.Core.List.{List}
 use Prim.Native.Nat.{ℕ, _/_, _^_, _≤_, _<_}
 use native.Mathlib.Omega.{arith}
 use lib.Dec.{ltb}
 use lib.ListN.{length, getD, take}
 use Rattle.std.proofs.shelf.Lists.{length-take-le, getD-take}
-use Rattle.finite.specs.Masks.{bit, mask}
+use Rattle.finite.specs.Masks.{bit}
 use Rattle.finite.proofs.Masks.{mask-is}
 use Rattle.grids.specs.Classes.{classes}
 use Rattle.grids.specs.Largest.{at-least, largest, top}

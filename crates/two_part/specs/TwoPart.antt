@@ -1,5 +1,5 @@
 -- The two-part bound over the answer of a bound below.
-use mathlib.Core.Bool.{Bool, _&&_, not}
+use mathlib.Core.Bool.{_&&_, not}
 use Prim.Native.Nat.{ℕ, _/_}
 use lib.Dec.{ltb}
 use Rattle.finite.specs.Masks.{bit, mask}

@@ -1,5 +1,8 @@
 // The two-part bound.
-ghost use Rattle.two_part.specs.TwoPart.{two-part};
+ghost use Prim.Native.Nat.{ℕ};
+ghost use Rattle.grids.specs.Largest.{Is-largest};
+ghost use Rattle.pictures.specs.declared.shape.Picture.{Picture as Drawing};
+ghost use Rattle.two_part.specs.TwoPart.{lower-part, part-reaching, two-part, upper-part};
 use bounds::Bound;
 use masks::below;
 use masks::meet;
@@ -27,4 +30,11 @@ pub impl<B: Bound> Bound for TwoPartBound<B> as TwoPartBoundBound {
         let in_w = tops(&self.0, p, w, u);
         largest(&in_u, &in_w) as u32
     }
+}
+
+// The answer is the largest r + s of all pairs that qualify.
+pub fn two_part_stands() -> u8
+    ensures { λ _. ⌜ ((answer : Drawing → ℕ → ℕ) (p : Drawing) (m : ℕ) → Is-largest (part-reaching answer p (lower-part p m) (upper-part p m)) (part-reaching answer p (upper-part p m) (lower-part p m)) (two-part answer p m)) ⌝ }
+{
+    0
 }

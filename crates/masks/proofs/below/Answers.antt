@@ -1,5 +1,4 @@
 use native.Mathlib.Omega.{arith}
-use Prim.Native.Nat.{_<_}
 use Rattle.finite.proofs.Masks.{bit-below, one-at}
 use Rattle.masks.proofs.below.Needs as need
 

@@ -7,5 +7,5 @@ returns c =
     let e = one-at (c .args .i) (c .pre .place) in
     record {
       members = rw e (bit-without (c .args .m) (c .args .i) (c .pre .member));
-      less = rw e (without-less (c .args .m) (c .args .i) (c .pre .place) (omega arith) (c .pre .member));
+      less = rw e (without-less 64 (c .args .m) (c .args .i) (c .pre .place) (omega arith) (c .pre .member));
     }

@@ -4,7 +4,7 @@ use mathlib.Core.Logic.{_⊎_, inl, inr}
 use Prim.Native.Nat.{_+_, _-_, _<_}
 use native.Mathlib.Omega.{arith}
 use lib.Dec.{ltb}
-use lib.ListN.{length, take, length-take}
+use lib.ListN.{length-take}
 use Rattle.finite.specs.Masks.{bit}
 use Rattle.finite.proofs.Masks.{one-at}
 use Rattle.grids.proofs.Walks.{stands-none, stands-all, stands-room, stands-turn}

@@ -1,4 +1,3 @@
-use mathlib.Core.Path.{_≡_}
 use mathlib.Core.Bool.{Bool, not}
 use Prim.Native.Nat.{ℕ}
 use native.Mathlib.Omega.{arith}

@@ -1,4 +1,3 @@
-use native.Mathlib.Omega.{arith}
 use Rattle.two_part.proofs.Values.{tops-are}
 use Rattle.two_part.proofs.parts.tops.Needs as need
 
