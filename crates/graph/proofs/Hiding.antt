@@ -2,13 +2,14 @@
 use mathlib.Core.Path.{_≡_, refl, sym, _∙_, ap}
 use mathlib.Core.List.{List}
 use mathlib.Core.Bool.{Bool, true, false, _&&_, _||_, not, cond}
-use Prim.Native.Nat.{ℕ, zero, suc, _+_, _≤_}
+use mathlib.Core.Logic.{inl, inr}
+use Prim.Native.Nat.{ℕ, zero, suc, _+_, _≤_, _<_}
 use native.Mathlib.Omega.{arith}
 use Rattle.std.specs.declared.option.Option.the-variants.{Some}
 use lib.Dec.{ltb, eqb}
-use lib.ListN.{getD, length, replicate}
-use Rattle.std.proofs.shelf.Lists.{getD-past}
-use Rattle.std.proofs.shelf.Tests.{cases-bool, and-left, and-from}
+use lib.ListN.{getD, length, replicate, set}
+use Rattle.std.proofs.shelf.Lists.{getD-past, getD-set-same, getD-set-other}
+use Rattle.std.proofs.shelf.Tests.{cases-bool, and-left, and-from, cases-eq, eq-eqb, ne-eqb}
 use Rattle.finite.specs.Finite.{count, members, nth}
 use Rattle.finite.proofs.Counts.{count-same, count-empty, count-le, count-more}
 use Rattle.finite.proofs.Members.{members-some}
@@ -146,3 +147,11 @@ marked-none (suc n) (suc k) = marked-none n k
 
 pub marked-past : (marks : List Bool) (k : ℕ) → length marks ≤ k → marked marks k ≡ false
 marked-past marks k l = getD-past marks k false l
+
+-- one more mark
+pub marked-set : (marks : List Bool) (c : ℕ) → c < length marks → (k : ℕ) → marked (set marks c true) k ≡ (marked marks k || eqb k c)
+marked-set marks c l k =
+    elim (cases-eq k c) [
+      | inl e ↦ rw (e, getD-set-same marks c true false l, eq-eqb c c refl) (grind (arith, cases-bool (marked marks c)))
+      | inr ne ↦ rw (getD-set-other marks c k true false ne, ne-eqb k c ne) (grind (arith, cases-bool (marked marks k)))
+    ]
