@@ -3,4 +3,5 @@ pub mod Cliques
 pub mod Colourings
 pub mod Degeneracy
 pub mod Edges
+pub mod Hiding
 pub mod Refusals

@@ -1,0 +1,4 @@
+pub mod Grid
+pub mod Classes
+pub mod Largest
+pub mod Draws
