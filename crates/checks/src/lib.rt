@@ -6,7 +6,11 @@ mod good;
 #[cfg(test)]
 mod laid;
 #[cfg(test)]
+mod layered;
+#[cfg(test)]
 mod lists;
+#[cfg(test)]
+mod pictured;
 #[cfg(test)]
 mod plans;
 #[cfg(test)]

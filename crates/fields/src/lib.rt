@@ -13,6 +13,9 @@ ghost use Rattle.fields.specs.Parts.{Cut};
 ghost use Rattle.fields.specs.Rows.{numbers-line};
 use std::alloc::AllocError;
 
+// The most digits that a number may have.
+const DIGITS: usize = 5;
+
 // The number that the digits write, if they are digits.
 fn digits(field: &[u8]) -> Option<u32>
     requires { ⌜ length (now field) ≤ 5 ⌝ }
@@ -34,7 +37,7 @@ pub fn number(field: &[u8]) -> Option<u32>
     ensures value { λ r. ⌜ r ≡ numeral (now (field .entry)) ⌝ }
     ensures cases { λ r. ⌜ BySome r ((v : ℕ) → Numeral (now (field .entry)) v → ⊥) (λ v. Numeral (now (field .entry)) v) ⌝ }
 {
-    if field.len() == 0 || field.len() > 5 {
+    if field.len() == 0 || field.len() > DIGITS {
         return None;
     }
     if field[0] == b'0' && field.len() > 1 {

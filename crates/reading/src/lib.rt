@@ -23,6 +23,11 @@ use lines::letter;
 use lines::misplaced;
 use lines::read_line;
 
+// The most numbers and the most clashes of a stock.
+const NUMBERS: u32 = 1024;
+
+const CLASHES: u32 = 16384;
+
 // How many numbers a stock has, and how many clashes.
 #[derive(Clone, Copy)]
 pub struct Size {
@@ -178,7 +183,7 @@ fn open_sheet<'a>(sheet: &'a [u8]) -> Result<Opened<'a>, Fault<'a>>
     };
     match read_line(piece.front, 1)? {
         Line::Size { n, m } => {
-            if n.value > 1024 || m.value > 16384 {
+            if n.value > NUMBERS || m.value > CLASHES {
                 return Err(Fault {
                     refusal: Refusal::TooLarge,
                     line: 1,

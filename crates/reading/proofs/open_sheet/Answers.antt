@@ -29,16 +29,16 @@ returns-in-Break-n c =
     let p = err-from-errBy (c .from-residual .result) (c .from-residual .ensures .1) in
     rw (p .1, p .2) (opens-wrong (c .args .sheet .now) (c .cut-piece .result .front .now) (c .in-Some .rest .now) _ (piece (need.at·returns-in-Break-n c .In-Some)) (c .in-Break-n .ensures tt))
 
-pub returns-then-n-gt1024 : need.returns-then-n-gt1024
-returns-then-n-gt1024 c =
+pub returns-then-n-gt-NUMBERS : need.returns-then-n-gt-NUMBERS
+returns-then-n-gt-NUMBERS c =
     let k = subst (Kept true (c .cut-piece .result .front .now)) (c .in-Size .is) (c .in-Continue-n .ensures tt) in
-    opens-large (c .args .sheet .now) (c .cut-piece .result .front .now) (c .in-Some .rest .now) (record { refusal = TooLarge; line = 1; field = 1; shown = c .letter .result }) (c .in-Size .n .value) (c .in-Size .m .value) (piece (need.at·returns-then-n-gt1024 c .In-Some)) (k .0)
-    (elim (c .then-n-gt1024 .either) [ inl a ↦ inl a | inr a ↦ inr (a .1) ]) (ap (fault 11 1 1) (c .letter .ensures))
+    opens-large (c .args .sheet .now) (c .cut-piece .result .front .now) (c .in-Some .rest .now) (record { refusal = TooLarge; line = 1; field = 1; shown = c .letter .result }) (c .in-Size .n .value) (c .in-Size .m .value) (piece (need.at·returns-then-n-gt-NUMBERS c .In-Some)) (k .0)
+    (elim (c .then-n-gt-NUMBERS .either) [ inl a ↦ inl a | inr a ↦ inr (a .1) ]) (ap (fault 11 1 1) (c .letter .ensures))
 
-pub returns-else-m-gt16384 : need.returns-else-m-gt16384
-returns-else-m-gt16384 c =
+pub returns-else-m-gt-CLASHES : need.returns-else-m-gt-CLASHES
+returns-else-m-gt-CLASHES c =
     let k = subst (Kept true (c .cut-piece .result .front .now)) (c .in-Size .is) (c .in-Continue-n .ensures tt) in
-    opens (c .args .sheet .now) (c .cut-piece .result .front .now) (record { size = record { n = c .in-Size .n .value; clashes = c .in-Size .m .value }; rest = c .in-Some .rest }) (piece (need.at·returns-else-m-gt16384 c .In-Some)) (k .0) (omega arith) (omega arith) (omega arith)
+    opens (c .args .sheet .now) (c .cut-piece .result .front .now) (record { size = record { n = c .in-Size .n .value; clashes = c .in-Size .m .value }; rest = c .in-Some .rest }) (piece (need.at·returns-else-m-gt-CLASHES c .In-Some)) (k .0) (omega arith) (omega arith) (omega arith)
 
 pub returns-in-Clash : need.returns-in-Clash
 returns-in-Clash c =

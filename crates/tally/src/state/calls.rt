@@ -12,6 +12,11 @@ use crate::laying::Laying;
 use graph::edge::Edge;
 use graph::refusal::Refusal;
 
+// The most numbers and the most clashes of a stock.
+const NUMBERS: usize = 1024;
+
+const CLASHES: usize = 16384;
+
 // What a tally has come to, and the laying of as many clashes.
 #[derive(Drop)]
 pub struct Totals {
@@ -37,7 +42,7 @@ impl Tally {
     pub fn open(&mut self, n: usize) -> Result<(), Refusal>
         ensures { λ r. ⌜ Cases r (λ _. (n ≤ 1024) × Counted n [] (now (self .exit))) (λ x. (1024 < n) × (x ≡ Refusal.TooLarge) × (now (self .exit) ≡ now (self .entry))) ⌝ }
     {
-        if n > 1024 {
+        if n > NUMBERS {
             return Err(Refusal::TooLarge);
         }
         *self = Tally {
@@ -63,7 +68,7 @@ impl Tally {
         if a >= b || !e.is_above(self.previous) {
             return Err(Refusal::Unordered);
         }
-        if self.clashes >= 16384 {
+        if self.clashes >= CLASHES {
             return Err(Refusal::TooLarge);
         }
         self.lengths[a] += 1;

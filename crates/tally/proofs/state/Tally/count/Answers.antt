@@ -31,8 +31,8 @@ returns-then-a-b c = λ n es s.
       refl,
     )
 
-pub returns-then-self-ge16384 : need.returns-then-self-ge16384
-returns-then-self-ge16384 c = λ n es s.
+pub returns-then-self-ge-CLASHES : need.returns-then-self-ge-CLASHES
+returns-then-self-ge-CLASHES c = λ n es s.
     let z = s .size in let y = s .count in (
       counting-many n es (c .args .a) (c .args .b) (omega arith) (omega arith) (omega arith) (ap (λ o. above o (edge (c .args .a) (c .args .b))) (sym (s .last)) ∙ sym (c .if-not-is-above .ensures tt)) (omega arith),
       refl,
