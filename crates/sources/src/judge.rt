@@ -11,7 +11,7 @@ use graph::refusal::Part;
 use graph::refusal::Refusal;
 
 /// Whether `b` stands in row `a`.
-pub(crate) fn row_has(offsets: &[u16], neighbours: &[u16], a: usize, b: usize) -> bool
+fn row_has(offsets: &[u16], neighbours: &[u16], a: usize, b: usize) -> bool
     requires offsets { ⌜ Sound-offsets (now offsets) (length (now neighbours)) ⌝ }
     requires row { ⌜ a < rows (now offsets) ⌝ }
     ensures { λ r. ⌜ r ≡ in-row (now (offsets .entry)) (now (neighbours .entry)) a b ⌝ }
