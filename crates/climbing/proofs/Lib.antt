@@ -1,0 +1,4 @@
+pub mod Steps
+pub mod Later
+pub mod Drawn
+pub mod Numbers
