@@ -4,13 +4,20 @@ use mathlib.Core.List.{List, [], _∷_, _++_}
 use mathlib.Core.Bool.{Bool, true, cond, _&&_, _||_}
 use mathlib.Core.Logic.{_⊎_}
 use Prim.Native.Nat.{ℕ, suc, _+_, _-_, _<_, _≤_}
-use lib.Dec.{eqb}
+use lib.Dec.{eqb, ltb}
 use lib.ListN.{length, getD, take, drop}
+use Rattle.std.specs.declared.option.Option.{Option}
+use Rattle.std.specs.declared.option.Option.the-variants.{Some, None}
 use Rattle.finite.specs.Finite.{any, count, has, members}
 use Rattle.finite.specs.Masks.{bit}
 use Rattle.finite.specs.Supports.{Within}
 use Rattle.graph.specs.Graph.{Graph, held, clash}
 use Rattle.graph.specs.Cliques.{Clique}
+use Rattle.graph.specs.declared.refusal.Refusal.{Refusal}
+use Rattle.graph.specs.declared.refusal.Refusal.the-variants.{OutOfRange, TooDense}
+use Rattle.pictures.specs.Pictures.{Draws}
+use Rattle.pictures.specs.declared.shape.Picture.{Picture}
+use Rattle.searching.specs.Answers.{AtMost, Largest}
 
 -- every clique inside the set has at most b members
 abbrev pub At-most : Graph → (ℕ → Bool) → ℕ → Type 0
@@ -73,3 +80,21 @@ pub record Block-in (g : Graph) (s : ℕ → Bool) (block : List ℕ) (b : ℕ) 
 pub record Climbs (g : Graph) (p : List ℕ) (i : ℕ) (before after : List ℕ) (a b : ℕ) : Type 0 where
   pub step : (j : ℕ) → Each-once g p → i + j + 1 ≡ length p → Block-in g (last p j) before a → Block-in g (last p (j + 1)) after b
   pub larger : Each-once g p → ((a < b) ⊎ ((b ≡ a) × (after ≡ before)))
+
+-- there is no place i, or else its vertex has more than 63 later neighbours
+abbrev pub Step-refused : Graph → List ℕ → ℕ → Refusal → Type 0
+Step-refused g p i x =
+    ((x ≡ OutOfRange) × (length p ≤ i)) ⊎ ((x ≡ TooDense) × (i < length p) × (63 < length (later-list g p i)))
+
+-- a largest clique inside m where it has a members or more, or else that it has fewer
+abbrev pub Reaches : Picture → ℕ → ℕ → Option ℕ → Type 0
+Reaches pic m a None = (0 < a) × AtMost pic m (a - 1)
+Reaches pic m a (Some k) = Largest pic m k × (a ≤ count (bit k) 64)
+
+-- what was found in a picture of the chosen vertices
+pub record Searched (g : Graph) (q : List ℕ) (a : ℕ) (r : Option ℕ) : Type 0 where
+  pub picture : Picture
+  pub mask : ℕ
+  pub draws : Draws g q picture
+  pub full : (i : ℕ) → bit mask i ≡ ltb i (length q)
+  pub found : Reaches picture mask a r
