@@ -1,10 +1,13 @@
 // The climb: a largest clique of a graph, vertex by vertex from the end of an order.
-ghost use Prim.Native.Nat.{_<_, _≤_};
-ghost use Rattle.climbing.specs.Climbs.{Climbs, Searched, Step-refused, later-list, picked, plus};
+ghost use Prim.Native.Nat.{ℕ, _<_, _≤_};
+ghost use Rattle.climbing.specs.Climbs.{Block-in, Climb-refused, Climbs, Each-once, Searched, Step-refused, later-list, picked, plus};
+ghost use Rattle.degeneracy.specs.Order.{Is-order, Is-peak};
 ghost use Rattle.finite.specs.Finite.{count, members};
+ghost use Rattle.graph.specs.Graph.{held};
 ghost use Rattle.std.specs.Options.{Cases as BySome};
-ghost use Rattle.std.specs.Results.{Cases};
+ghost use Rattle.std.specs.Results.{Cases, isOk};
 ghost use lib.ListN.{length, take};
+ghost use mathlib.Core.Bool.{true};
 ghost use mathlib.Core.Path.{_≡_};
 use bounds::Bound;
 use cliques::largest;
@@ -123,4 +126,25 @@ pub fn climb_step<S: Source, B: Bound>(
         )),
         None => Ok(len),
     }
+}
+
+// All steps, from the end of the order to its start: the block becomes a largest clique of the graph, if the order
+// contains each vertex once. Answers how many members it has. Refuses where a vertex has more than 63 neighbours later in
+// the order.
+pub fn climb_all<S: Source, B: Bound>(
+    source: &S,
+    bound: &B,
+    order: &[u16],
+    block: &mut [u16; 64],
+) -> Result<usize, Refusal>
+    ensures cases { λ r. ⌜ Cases r (λ b. Each-once (S·Source .graph (now (source .entry))) (now (order .entry)) → Block-in (S·Source .graph (now (source .entry))) (held (S·Source .graph (now (source .entry)))) (now (block .exit)) b) (λ x. Climb-refused (S·Source .graph (now (source .entry))) (now (order .entry)) x × (now (block .exit) ≡ now (block .entry))) ⌝ }
+    ensures succeeds { λ r. ⌜ ((m : ℕ) → Is-order (S·Source .graph (now (source .entry))) (now (order .entry)) → Is-peak (S·Source .graph (now (source .entry))) (now (order .entry)) m → m ≤ 63 → isOk r ≡ true) ⌝ }
+{
+    let mut best = [0u16; 64];
+    let mut len = 0;
+    for at in (0..order.len()).rev() {
+        len = climb_step(source, bound, order, at, &mut best, len)?;
+    }
+    *block = best;
+    Ok(len)
 }

@@ -14,16 +14,19 @@ use Rattle.std.proofs.shelf.Tests.{and-parts, both-ways, ne-eqb, or-right, or-f
 use Rattle.std.specs.declared.option.Option.the-variants.{Some, None}
 use Rattle.finite.specs.Finite.{any, count, has, members}
 use Rattle.finite.specs.Masks.{bit}
-use Rattle.finite.proofs.Counts.{any-none, any-more}
+use Rattle.finite.proofs.Counts.{any-none, any-more, has-none}
 use Rattle.finite.proofs.Masks.{bit-zero}
 use Rattle.finite.proofs.Members.{count-rise}
 use Rattle.graph.specs.Graph.{Graph, Lawful, held, clash}
+use Rattle.graph.specs.declared.refusal.Refusal.{Refusal}
 use Rattle.graph.proofs.Graphs.{clash-right}
+use Rattle.degeneracy.specs.Order.{Is-order, Is-peak}
 use Rattle.pictures.specs.declared.shape.Picture.{Picture}
 use Rattle.searching.specs.Answers.{AtMost, Largest}
-use Rattle.climbing.specs.Climbs.{At-most, Largest-among, Each-once, Block-in, Climbs, Searched, backward, later, later-list, last, near, picked, plus}
+use Rattle.climbing.specs.Climbs.{At-most, Largest-among, Each-once, Block-in, Climbs, Searched, Step-refused, Climb-refused, backward, later, later-list, last, near, picked, plus}
 use Rattle.climbing.proofs.Steps.{most-same, largest-same, largest-plus, largest-stays, count-plus, plus-few}
-use Rattle.climbing.proofs.Later.{Apart, backward-none, backward-yes, backward-no, backward-drop, later-has, later-apart, last-is, last-more}
+use Rattle.climbing.proofs.Later.{Apart, backward-none, backward-yes, backward-no, backward-drop, later-has, later-apart, last-is, last-more, order-few}
+use Rattle.climbing.proofs.Numbers.{number-empty, all-climbed}
 use Rattle.climbing.proofs.Drawn.{picked-few, picked-from, most-drawn, largest-drawn}
 
 -- ---- the later neighbours, written from the end of the list
@@ -155,3 +158,40 @@ pub picked-all : (q : List ℕ) (k v c i : ℕ) → (v ≡ c → ⊥) → length
 unfolding picked
 picked-all q k v c i ne e f =
     sym (or-from (eqb v c) (any (λ i. bit k i && eqb (getD q i 0) c) (length q)) (ne-eqb v c ne) (ap (any (λ i. bit k i && eqb (getD q i 0) c)) e ∙ f))
+
+-- ---- all steps
+
+members-empty : (n : ℕ) → members (λ c. false) n ≡ []
+unfolding members
+members-empty zero = refl
+members-empty (suc n) = append-nil (members (λ c. false) n) ∙ members-empty n
+
+module _ (g : Graph) (p : List ℕ) where
+  pub climb-none : (block : List ℕ) (i : ℕ) → i ≡ length p → Each-once g p → Block-in g (last p (length p - i)) block 0
+  unfolding members
+  climb-none block i e once =
+      let z : length p - (length p - i) ≡ length p = omega arith in
+      let none : (c : ℕ) → last p (length p - i) c ≡ false = λ c. ap (λ (k : ℕ). has (drop k p) c) z ∙ ap (λ (l : List ℕ). has l c) (drop-length p) ∙ has-none c in
+      record { set = λ c. false; largest = number-empty g (last p (length p - i)) none; front = sym (members-empty (g .size)) }
+
+  pub climb-more : (before after : List ℕ) (i a b : ℕ) → 0 < i → i ≤ length p → Climbs g p (i - 1) before after a b → (Each-once g p → Block-in g (last p (length p - i)) before a) → Each-once g p → Block-in g (last p (length p - (i - 1))) after b
+  climb-more before after i a b pos le cl old once =
+      let e : length p - i + 1 ≡ length p - (i - 1) = omega arith in
+      subst (λ (j : ℕ). Block-in g (last p j) after b) e (cl .step (length p - i) once (omega arith) (old once))
+
+  pub climb-all : (block : List ℕ) (i b : ℕ) → i ≡ 0 → (Each-once g p → Block-in g (last p (length p - i)) block b) → Each-once g p → Block-in g (held g) block b
+  climb-all block i b z old once =
+      let e : length p - i ≡ length p = omega arith in
+      all-climbed g p block b once (subst (λ (j : ℕ). Block-in g (last p j) block b) e (old once))
+
+  -- a refused step is one with too many later neighbours
+  pub refused-dense : (i : ℕ) (x : Refusal) → i < length p → Step-refused g p i x → Climb-refused g p x
+  refused-dense i x l r = elim r [ inl o ↦ absurd (omega (arith, o .1)) | inr d ↦ (d .0, (i, d .1, d .2)) ]
+
+  -- which does not happen in a removal order of a graph whose degeneracy is at most 63
+  pub never-dense : (m : ℕ) (x : Refusal) → Is-order g p → Is-peak g p m → m ≤ 63 → Climb-refused g p x → ⊥
+  never-dense m x o pk l r =
+      let w = r .1 in
+      let a = order-few g p (w .0) o (w .1) in
+      let b = pk .above (w .0) (w .1) in
+      omega (arith, w .2)

@@ -22,16 +22,20 @@ use Rattle.climbing.proofs.Later.{has-after}
 
 -- ---- inside every set there is a largest clique
 
-number-none : (g : Graph) (s : ℕ → Bool) → ((c : ℕ) → held g c ≡ true → s c ≡ false) → Clique-number g s 0
-number-none g s none = record {
-  set = λ c. false;
-  largest = record {
-    clique = record { members = λ c t. absurd (false≢true t); joins = λ a b t. absurd (false≢true t) };
-    within = λ c t. absurd (false≢true t);
-    many = count-empty (λ c. false) (g .size) (λ c _. refl);
-    most = λ K k w. let e = count-empty K (g .size) (λ c _. elim (cases-bool (K c)) [ inl y ↦ absurd (both-ways (s c) (none c (k .members c y)) (w c y)) | inr n ↦ n ]) in omega arith;
-  };
+-- where no vertex is in the set, the empty clique is the largest
+none-largest : (g : Graph) (s : ℕ → Bool) → ((c : ℕ) → held g c ≡ true → s c ≡ false) → Largest-among g s (λ c. false) 0
+none-largest g s none = record {
+  clique = record { members = λ c t. absurd (false≢true t); joins = λ a b t. absurd (false≢true t) };
+  within = λ c t. absurd (false≢true t);
+  many = count-empty (λ c. false) (g .size) (λ c _. refl);
+  most = λ K k w. let e = count-empty K (g .size) (λ c _. elim (cases-bool (K c)) [ inl y ↦ absurd (both-ways (s c) (none c (k .members c y)) (w c y)) | inr n ↦ n ]) in omega arith;
 }
+
+pub number-empty : (g : Graph) (s : ℕ → Bool) → ((c : ℕ) → s c ≡ false) → Largest-among g s (λ c. false) 0
+number-empty g s none = none-largest g s (λ c _. none c)
+
+number-none : (g : Graph) (s : ℕ → Bool) → ((c : ℕ) → held g c ≡ true → s c ≡ false) → Clique-number g s 0
+number-none g s none = record { set = λ c. false; largest = none-largest g s none }
 
 some-below : (g : Graph) → Lawful g → (n : ℕ) (s : ℕ → Bool) → ((c : ℕ) → s c ≡ true → c < n) → (b : ℕ) × Clique-number g s b
 some-below g law zero s f =

@@ -86,6 +86,10 @@ abbrev pub Step-refused : Graph → List ℕ → ℕ → Refusal → Type 0
 Step-refused g p i x =
     ((x ≡ OutOfRange) × (length p ≤ i)) ⊎ ((x ≡ TooDense) × (i < length p) × (63 < length (later-list g p i)))
 
+-- the vertex at some place has more than 63 later neighbours
+abbrev pub Climb-refused : Graph → List ℕ → Refusal → Type 0
+Climb-refused g p x = (x ≡ TooDense) × ((i : ℕ) × (i < length p) × (63 < length (later-list g p i)))
+
 -- a largest clique inside m where it has a members or more, or else that it has fewer
 abbrev pub Reaches : Picture → ℕ → ℕ → Option ℕ → Type 0
 Reaches pic m a None = (0 < a) × AtMost pic m (a - 1)
