@@ -106,7 +106,8 @@ pub fn climb_step<S: Source, B: Bound>(
     block: &mut [u16; 64],
     len: usize,
 ) -> Result<usize, Refusal>
-    ensures { λ r. ⌜ Cases r (λ b. Climbs (S·Source .graph (now (source .entry))) (now (order .entry)) at (now (block .entry)) (now (block .exit)) len b) (λ x. Step-refused (S·Source .graph (now (source .entry))) (now (order .entry)) at x × (now (block .exit) ≡ now (block .entry))) ⌝ }
+    ensures cases { λ r. ⌜ Cases r (λ b. Climbs (S·Source .graph (now (source .entry))) (now (order .entry)) at (now (block .entry)) (now (block .exit)) len b) (λ x. Step-refused (S·Source .graph (now (source .entry))) (now (order .entry)) at x × (now (block .exit) ≡ now (block .entry))) ⌝ }
+    ensures succeeds { λ r. ⌜ ((m : ℕ) → Is-order (S·Source .graph (now (source .entry))) (now (order .entry)) → Is-peak (S·Source .graph (now (source .entry))) (now (order .entry)) m → m ≤ 63 → at < length (now (order .entry)) → isOk r ≡ true) ⌝ }
 {
     if at >= order.len() {
         return Err(Refusal::OutOfRange);
@@ -117,13 +118,7 @@ pub fn climb_step<S: Source, B: Bound>(
     };
     let later = &table[0..count];
     match reaching(source, bound, later, len) {
-        Some(mask) => Ok(write_block(
-            block,
-            source.size(),
-            later,
-            mask,
-            order[at] as usize,
-        )),
+        Some(mask) => Ok(write_block(block, source.size(), later, mask, order[at] as usize)),
         None => Ok(len),
     }
 }

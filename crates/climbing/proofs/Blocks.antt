@@ -195,3 +195,7 @@ module _ (g : Graph) (p : List ℕ) where
       let a = order-few g p (w .0) o (w .1) in
       let b = pk .above (w .0) (w .1) in
       omega (arith, w .2)
+
+  -- so no step at a place of such an order is refused
+  pub step-dense : (i : ℕ) (x : Refusal) (m : ℕ) → i < length p → Is-order g p → Is-peak g p m → m ≤ 63 → Step-refused g p i x → ⊥
+  step-dense i x m l o pk h r = never-dense m x o pk h (refused-dense i x l r)

@@ -86,6 +86,12 @@ some-largest g s law =
       },
     )
 
+pub one-number : (g : Graph) (s : ℕ → Bool) (b d : ℕ) → Clique-number g s b → Clique-number g s d → b ≡ d
+one-number g s b d x y =
+    let l = y .largest .most (x .set) (x .largest .clique) (x .largest .within) in
+    let h = x .largest .most (y .set) (y .largest .clique) (y .largest .within) in
+    omega (arith, x .largest .many, y .largest .many)
+
 -- ---- later neighbours
 
 some-member : (M : ℕ → Bool) (n : ℕ) → ((c : ℕ) × (M c ≡ true)) ⊎ ((c : ℕ) → c < n → M c ≡ false)

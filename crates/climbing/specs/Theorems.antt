@@ -13,6 +13,10 @@ use Rattle.climbing.specs.Climbs.{Clique-number, Each-once, Block-in, later, l
 abbrev pub Some-largest : Type 0
 Some-largest = (g : Graph) (s : ℕ → Bool) → Lawful g → (b : ℕ) × Clique-number g s b
 
+-- all of which have as many members
+abbrev pub One-number : Type 0
+One-number = (g : Graph) (s : ℕ → Bool) (b d : ℕ) → Clique-number g s b → Clique-number g s d → b ≡ d
+
 -- where each vertex stands in the list once, a largest clique has one member more than a largest among the later
 -- neighbours of some vertex, and no fewer than that for any vertex
 abbrev pub Later-neighbours : Type 0
