@@ -32,6 +32,16 @@ pub fn lowest(m: u64) -> usize
     m.trailing_zeros() as usize
 }
 
+// The highest member of `m`.
+pub fn highest(m: u64) -> usize
+    requires { ⌜ 0 < m ⌝ }
+    ensures place { λ r. ⌜ r < 64 ⌝ }
+    ensures member { λ r. ⌜ bit m r ≡ true ⌝ }
+    ensures most { λ r. ⌜ ((j : ℕ) → bit m j ≡ true → j ≤ r) ⌝ }
+{
+    63 - m.leading_zeros() as usize
+}
+
 // `m` and `i`.
 pub fn with(m: u64, i: usize) -> u64
     requires { ⌜ i < 64 ⌝ }

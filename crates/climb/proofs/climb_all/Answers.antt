@@ -1,0 +1,28 @@
+use mathlib.Core.Path.{_≡_, refl}
+use Prim.Native.Nat.{_-_}
+use native.Mathlib.Omega.{arith}
+use Rattle.std.proofs.shelf.Results.{err-from-errBy}
+use Rattle.climbing.proofs.Blocks.{climb-none, climb-more, climb-all, refused-dense, never-dense}
+use Rattle.climb.proofs.climb_all.Needs as need
+
+pub loop-at-holds : need.loop-at-holds
+loop-at-holds g c = climb-none (g .S·Source .graph (c .args .source .now)) (c .args .order .now) _ _ refl
+
+pub loop-at-again : need.loop-at-again
+loop-at-again g c =
+    climb-more (g .S·Source .graph (c .args .source .now)) (c .args .order .now) (c .loop-at .best) (c .climb-step .last .block) (c .loop-at .at) (c .loop-at .len) (c .in-Continue-len .len) (omega arith) (omega arith) (c .in-Continue-len .ensures tt .cases) (c .loop-at .inv)
+
+pub returns-in-Break-len : need.returns-in-Break-len
+returns-in-Break-len g c =
+    let G = g .S·Source .graph (c .args .source .now) in
+    let order = c .args .order .now in
+    let p = err-from-errBy (c .from-residual .result) (c .from-residual .ensures .1) in
+    let e = refused-dense G order (c .loop-at .at - 1) _ (omega arith) (c .in-Break-len .ensures tt .cases .0) in
+    rw (p .1, p .2) (record { cases = (e, refl); succeeds = λ m o k l. absurd (never-dense G order m _ o k l e) })
+
+pub returns : need.returns
+returns g c =
+    record {
+      cases = climb-all (g .S·Source .graph (c .args .source .now)) (c .args .order .now) (c .loop-at .best) (c .loop-at .at) (c .loop-at .len) (omega arith) (c .loop-at .inv);
+      succeeds = λ m o k l. refl;
+    }
