@@ -116,6 +116,9 @@ pub fn climb_step<S: Source, B: Bound>(
     let Some(count) = later_neighbours(source, order, at, &mut table) else {
         return Err(Refusal::TooDense);
     };
+    if count < len {
+        return Ok(len);
+    }
     let later = &table[0..count];
     match reaching(source, bound, later, len) {
         Some(mask) => Ok(write_block(block, source.size(), later, mask, order[at] as usize)),

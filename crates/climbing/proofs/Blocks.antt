@@ -27,7 +27,7 @@ use Rattle.climbing.specs.Climbs.{At-most, Largest-among, Each-once, Block-in,
 use Rattle.climbing.proofs.Steps.{most-same, largest-same, largest-plus, largest-stays, count-plus, plus-few}
 use Rattle.climbing.proofs.Later.{Apart, backward-none, backward-yes, backward-no, backward-drop, later-has, later-apart, last-is, last-more, order-few}
 use Rattle.climbing.proofs.Numbers.{number-empty, all-climbed}
-use Rattle.climbing.proofs.Drawn.{picked-few, picked-from, most-drawn, largest-drawn}
+use Rattle.climbing.proofs.Drawn.{picked-few, picked-from, most-listed, most-drawn, largest-drawn}
 
 -- ---- the later neighbours, written from the end of the list
 
@@ -128,14 +128,22 @@ module _ (g : Graph) (p q : List ℕ) (i : ℕ) (is : q ≡ later-list g p i) (l
       among : Each-once g p → Largest-among g (has q) (picked q k) (count (bit k) 64)
       among once = largest-drawn g q (sr .picture) (sr .mask) (sr .draws) (q-apart once) q-held (sr .full) k (sr .found .0)
 
-  pub climbs-same : (block : List ℕ) (a : ℕ) → Searched g q a None → Climbs g p i block block a a
-  climbs-same block a sr = record {
+  pub climbs-kept : (block : List ℕ) (a b : ℕ) → (Each-once g p → At-most g (has q) b) → b < a → Climbs g p i block block a a
+  climbs-kept block a b few l = record {
     step = λ j once e old.
-        let few = most-drawn g q (sr .picture) (sr .mask) (sr .draws) (q-apart once) q-held (sr .full) (a - 1) (sr .found .1) in
-        let less = most-same g (has q) (near g (last p j) (getD p i 0)) (a - 1) (λ c t. q-last j e c ∙ t) few in
-        record { set = old .set; largest = largest-stays g (last p j) (last p (j + 1)) (old .set) (getD p i 0) (a - 1) a (last-more p i j e) (old .largest) less (omega (arith, sr .found .0)); front = old .front };
+        let less = most-same g (has q) (near g (last p j) (getD p i 0)) b (λ c t. q-last j e c ∙ t) (few once) in
+        record { set = old .set; largest = largest-stays g (last p j) (last p (j + 1)) (old .set) (getD p i 0) b a (last-more p i j e) (old .largest) less (omega arith); front = old .front };
     larger = λ once. inr (refl, refl);
   }
+
+  -- no clique of the picture is large enough
+  pub climbs-same : (block : List ℕ) (a : ℕ) → Searched g q a None → Climbs g p i block block a a
+  climbs-same block a sr =
+      climbs-kept block a (a - 1) (λ once. most-drawn g q (sr .picture) (sr .mask) (sr .draws) (q-apart once) q-held (sr .full) (a - 1) (sr .found .1)) (omega (arith, sr .found .0))
+
+  -- there are too few later neighbours
+  pub climbs-few : (block : List ℕ) (a : ℕ) → length q < a → Climbs g p i block block a a
+  climbs-few block a l = climbs-kept block a (length q) (λ once. most-listed g q) l
 
 -- ---- whether a number is picked
 
