@@ -116,6 +116,9 @@ pub fn climb_step<S: Source, B: Bound>(
     let Some(count) = later_neighbours(source, order, at, &mut table) else {
         return Err(Refusal::TooDense);
     };
+    if count < len {
+        return Ok(len);
+    }
     let later = &table[0..count];
     match reaching(source, bound, later, len) {
         Some(mask) => Ok(write_block(block, source.size(), later, mask, order[at] as usize)),
@@ -132,7 +135,7 @@ pub fn climb_all<S: Source, B: Bound>(
     order: &[u16],
     block: &mut [u16; 64],
 ) -> Result<usize, Refusal>
-    ensures cases { λ r. ⌜ Cases r (λ b. Each-once (S·Source .graph (now (source .entry))) (now (order .entry)) → Block-in (S·Source .graph (now (source .entry))) (held (S·Source .graph (now (source .entry)))) (now (block .exit)) b) (λ x. Climb-refused (S·Source .graph (now (source .entry))) (now (order .entry)) x × (now (block .exit) ≡ now (block .entry))) ⌝ }
+    ensures cases { λ r. ⌜ Cases r (λ b. (b ≤ 64) × (Each-once (S·Source .graph (now (source .entry))) (now (order .entry)) → Block-in (S·Source .graph (now (source .entry))) (held (S·Source .graph (now (source .entry)))) (now (block .exit)) b)) (λ x. Climb-refused (S·Source .graph (now (source .entry))) (now (order .entry)) x × (now (block .exit) ≡ now (block .entry))) ⌝ }
     ensures succeeds { λ r. ⌜ ((m : ℕ) → Is-order (S·Source .graph (now (source .entry))) (now (order .entry)) → Is-peak (S·Source .graph (now (source .entry))) (now (order .entry)) m → m ≤ 63 → isOk r ≡ true) ⌝ }
 {
     let mut best = [0u16; 64];

@@ -27,7 +27,7 @@ use Rattle.climbing.specs.Climbs.{At-most, Largest-among, Each-once, Block-in,
 use Rattle.climbing.proofs.Steps.{most-same, largest-same, largest-plus, largest-stays, count-plus, plus-few}
 use Rattle.climbing.proofs.Later.{Apart, backward-none, backward-yes, backward-no, backward-drop, later-has, later-apart, last-is, last-more, order-few}
 use Rattle.climbing.proofs.Numbers.{number-empty, all-climbed}
-use Rattle.climbing.proofs.Drawn.{picked-few, picked-from, most-drawn, largest-drawn}
+use Rattle.climbing.proofs.Drawn.{picked-few, picked-from, most-listed, most-drawn, largest-drawn}
 
 -- ---- the later neighbours, written from the end of the list
 
@@ -112,8 +112,9 @@ module _ (g : Graph) (p q : List ℕ) (i : ℕ) (is : q ≡ later-list g p i) (l
   q-last : (j : ℕ) → i + j + 1 ≡ length p → (c : ℕ) → has q c ≡ near g (last p j) (getD p i 0) c
   q-last j e c = q-has c ∙ ap (λ (k : ℕ). has (drop k p) c && clash g (getD p i 0) c) (sym (last-is p i j e))
 
-  pub climbs-larger : (before after : List ℕ) (a b k : ℕ) → i < length p → Searched g q a (Some k) → b ≡ count (plus (getD p i 0) (picked q k)) (g .size) → take b after ≡ members (plus (getD p i 0) (picked q k)) (g .size) → Climbs g p i before after a b
-  climbs-larger before after a b k l sr many front = record {
+  pub climbs-larger : (before after : List ℕ) (a b k : ℕ) → i < length p → length q ≤ 63 → Searched g q a (Some k) → b ≡ count (plus (getD p i 0) (picked q k)) (g .size) → take b after ≡ members (plus (getD p i 0) (picked q k)) (g .size) → Climbs g p i before after a b
+  climbs-larger before after a b k l short sr many front = record {
+    bound = λ _. omega (arith, many, block-few q k (getD p i 0) (g .size));
     step = λ j once e old.
         let lg = largest-same g (has q) (near g (last p j) (getD p i 0)) (picked q k) (count (bit k) 64) (λ c t. sym (q-last j e c) ∙ t) (λ c t. q-last j e c ∙ t) (among once) in
         let big = largest-plus g (last p j) (last p (j + 1)) (picked q k) (getD p i 0) a (count (bit k) 64) law (once .vertex i l) (last-more p i j e) lg (old .largest .most) (omega (arith, sr .found .1)) in
@@ -128,14 +129,23 @@ module _ (g : Graph) (p q : List ℕ) (i : ℕ) (is : q ≡ later-list g p i) (l
       among : Each-once g p → Largest-among g (has q) (picked q k) (count (bit k) 64)
       among once = largest-drawn g q (sr .picture) (sr .mask) (sr .draws) (q-apart once) q-held (sr .full) k (sr .found .0)
 
-  pub climbs-same : (block : List ℕ) (a : ℕ) → Searched g q a None → Climbs g p i block block a a
-  climbs-same block a sr = record {
+  pub climbs-kept : (block : List ℕ) (a b : ℕ) → (Each-once g p → At-most g (has q) b) → b < a → Climbs g p i block block a a
+  climbs-kept block a b few l = record {
+    bound = λ h. h;
     step = λ j once e old.
-        let few = most-drawn g q (sr .picture) (sr .mask) (sr .draws) (q-apart once) q-held (sr .full) (a - 1) (sr .found .1) in
-        let less = most-same g (has q) (near g (last p j) (getD p i 0)) (a - 1) (λ c t. q-last j e c ∙ t) few in
-        record { set = old .set; largest = largest-stays g (last p j) (last p (j + 1)) (old .set) (getD p i 0) (a - 1) a (last-more p i j e) (old .largest) less (omega (arith, sr .found .0)); front = old .front };
+        let less = most-same g (has q) (near g (last p j) (getD p i 0)) b (λ c t. q-last j e c ∙ t) (few once) in
+        record { set = old .set; largest = largest-stays g (last p j) (last p (j + 1)) (old .set) (getD p i 0) b a (last-more p i j e) (old .largest) less (omega arith); front = old .front };
     larger = λ once. inr (refl, refl);
   }
+
+  -- no clique of the picture is large enough
+  pub climbs-same : (block : List ℕ) (a : ℕ) → Searched g q a None → Climbs g p i block block a a
+  climbs-same block a sr =
+      climbs-kept block a (a - 1) (λ once. most-drawn g q (sr .picture) (sr .mask) (sr .draws) (q-apart once) q-held (sr .full) (a - 1) (sr .found .1)) (omega (arith, sr .found .0))
+
+  -- there are too few later neighbours
+  pub climbs-few : (block : List ℕ) (a : ℕ) → length q < a → Climbs g p i block block a a
+  climbs-few block a l = climbs-kept block a (length q) (λ once. most-listed g q) l
 
 -- ---- whether a number is picked
 
@@ -167,12 +177,16 @@ members-empty zero = refl
 members-empty (suc n) = append-nil (members (λ c. false) n) ∙ members-empty n
 
 module _ (g : Graph) (p : List ℕ) where
+  pub climb-start : (block : List ℕ) → Block-in g (last p 0) block 0
+  climb-start block =
+      let z : length p - 0 ≡ length p = omega arith in
+      let none : (c : ℕ) → last p 0 c ≡ false = λ c. ap (λ (k : ℕ). has (drop k p) c) z ∙ ap (λ (l : List ℕ). has l c) (drop-length p) ∙ has-none c in
+      record { set = λ c. false; largest = number-empty g (last p 0) none; front = sym (members-empty (g .size)) }
+
   pub climb-none : (block : List ℕ) (i : ℕ) → i ≡ length p → Each-once g p → Block-in g (last p (length p - i)) block 0
-  unfolding members
   climb-none block i e once =
-      let z : length p - (length p - i) ≡ length p = omega arith in
-      let none : (c : ℕ) → last p (length p - i) c ≡ false = λ c. ap (λ (k : ℕ). has (drop k p) c) z ∙ ap (λ (l : List ℕ). has l c) (drop-length p) ∙ has-none c in
-      record { set = λ c. false; largest = number-empty g (last p (length p - i)) none; front = sym (members-empty (g .size)) }
+      let z : 0 ≡ length p - i = omega arith in
+      subst (λ (j : ℕ). Block-in g (last p j) block 0) z (climb-start block)
 
   pub climb-more : (before after : List ℕ) (i a b : ℕ) → 0 < i → i ≤ length p → Climbs g p (i - 1) before after a b → (Each-once g p → Block-in g (last p (length p - i)) before a) → Each-once g p → Block-in g (last p (length p - (i - 1))) after b
   climb-more before after i a b pos le cl old once =

@@ -21,7 +21,7 @@ use Rattle.pictures.specs.Pictures as pictures
 use Rattle.pictures.specs.declared.shape.Picture.{Picture}
 use Rattle.searching.specs.Answers.{AtMost, Largest}
 use Rattle.climbing.specs.Climbs.{At-most, Largest-among, picked}
-use Rattle.climbing.proofs.Later.{Apart, differ}
+use Rattle.climbing.proofs.Later.{Apart, differ, count-true}
 
 pub picked-some : (q : List ℕ) (k c : ℕ) → picked q k c ≡ true → (i : ℕ) × (i < length q) × (bit k i ≡ true) × (getD q i 0 ≡ c)
 unfolding picked
@@ -40,6 +40,13 @@ pub picked-few : (q : List ℕ) (k n : ℕ) → count (picked q k) n ≤ length 
 picked-few q k n =
     let a = count-inject (picked q k) (bit k) (λ c i. getD q i 0 ≡ c) n (length q) (λ c l y. picked-some q k c y) (λ a c b _ _ _ _ x y. sym x ∙ y) in
     let b = count-le (bit k) (length q) in
+    omega arith
+
+-- a clique inside a list has no more members than the list
+pub most-listed : (g : Graph) (q : List ℕ) → At-most g (has q) (length q)
+most-listed g q L k w =
+    let a = count-inject L (λ _. true) (λ c i. getD q i 0 ≡ c) (g .size) (length q) (λ c l y. let h = has-true q c (w c y) in (h .0, h .1, refl, h .2)) (λ a c b _ _ _ _ x y. sym x ∙ y) in
+    let b = count-true (length q) in
     omega arith
 
 module _ (g : Graph) (q : List ℕ) (pic : Picture) (m : ℕ) (dr : Draws g q pic) (apart : Apart q) (hd : (c : ℕ) → has q c ≡ true → held g c ≡ true) (full : (i : ℕ) → bit m i ≡ ltb i (length q)) where

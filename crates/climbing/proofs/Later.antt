@@ -163,7 +163,7 @@ order-once g p o = record {
   all = o .all;
 }
 
-count-true : (n : ℕ) → count (λ _. true) n ≡ n
+pub count-true : (n : ℕ) → count (λ _. true) n ≡ n
 unfolding count
 count-true zero = refl
 count-true (suc n) = ap suc (count-true n)

@@ -79,6 +79,7 @@ pub record Block-in (g : Graph) (s : ℕ → Bool) (block : List ℕ) (b : ℕ) 
 -- what the step at place i makes of a block of a members: one of b members, the old one or a larger
 pub record Climbs (g : Graph) (p : List ℕ) (i : ℕ) (before after : List ℕ) (a b : ℕ) : Type 0 where
   pub step : (j : ℕ) → Each-once g p → i + j + 1 ≡ length p → Block-in g (last p j) before a → Block-in g (last p (j + 1)) after b
+  pub bound : a ≤ 64 → b ≤ 64
   pub larger : Each-once g p → ((a < b) ⊎ ((b ≡ a) × (after ≡ before)))
 
 -- there is no place i, or else its vertex has more than 63 later neighbours

@@ -22,6 +22,10 @@ One-number = (g : Graph) (s : ℕ → Bool) (b d : ℕ) → Clique-number g s b 
 abbrev pub Later-neighbours : Type 0
 Later-neighbours = (g : Graph) (p : List ℕ) (w : ℕ → ℕ) → Lawful g → Each-once g p → ((i : ℕ) → i < length p → Clique-number g (later g p i) (w i)) → Clique-number g (held g) (most (λ i. w i + 1) (length p))
 
+-- at the start of a climb the block is empty
+abbrev pub None-climbed : Type 0
+None-climbed = (g : Graph) (p block : List ℕ) → Block-in g (last p 0) block 0
+
 -- a largest clique among all of the list is a largest clique of the graph
 abbrev pub All-climbed : Type 0
 All-climbed = (g : Graph) (p block : List ℕ) (b : ℕ) → Each-once g p → Block-in g (last p (length p)) block b → Block-in g (held g) block b

@@ -6,11 +6,12 @@ use Rattle.climbing.proofs.Blocks.{climb-none, climb-more, climb-all, refused-d
 use Rattle.climb.proofs.climb_all.Needs as need
 
 pub loop-at-holds : need.loop-at-holds
-loop-at-holds g c = climb-none (g .S·Source .graph (c .args .source .now)) (c .args .order .now) _ _ refl
+loop-at-holds g c =
+    (omega arith, climb-none (g .S·Source .graph (c .args .source .now)) (c .args .order .now) _ _ refl)
 
 pub loop-at-again : need.loop-at-again
 loop-at-again g c =
-    climb-more (g .S·Source .graph (c .args .source .now)) (c .args .order .now) (c .loop-at .best) (c .climb-step .last .block) (c .loop-at .at) (c .loop-at .len) (c .in-Continue-len .len) (omega arith) (omega arith) (c .in-Continue-len .ensures tt .cases) (c .loop-at .inv)
+    (c .in-Continue-len .ensures tt .cases .bound (c .loop-at .inv .0), climb-more (g .S·Source .graph (c .args .source .now)) (c .args .order .now) (c .loop-at .best) (c .climb-step .last .block) (c .loop-at .at) (c .loop-at .len) (c .in-Continue-len .len) (omega arith) (omega arith) (c .in-Continue-len .ensures tt .cases) (c .loop-at .inv .1))
 
 pub returns-in-Break-len : need.returns-in-Break-len
 returns-in-Break-len g c =
@@ -23,6 +24,6 @@ returns-in-Break-len g c =
 pub returns : need.returns
 returns g c =
     record {
-      cases = climb-all (g .S·Source .graph (c .args .source .now)) (c .args .order .now) (c .loop-at .best) (c .loop-at .at) (c .loop-at .len) (omega arith) (c .loop-at .inv);
+      cases = (c .loop-at .inv .0, climb-all (g .S·Source .graph (c .args .source .now)) (c .args .order .now) (c .loop-at .best) (c .loop-at .at) (c .loop-at .len) (omega arith) (c .loop-at .inv .1));
       succeeds = λ m o k l. refl;
     }
