@@ -6,7 +6,7 @@ use Prim.Native.Nat.{ℕ, zero, suc, _+_, _-_, _<_, _≤_}
 use native.Mathlib.Numerals.{add-one}
 use native.Mathlib.Omega.{arith}
 use lib.ListN.{length, getD, take, set}
-use Rattle.std.proofs.shelf.Lists.{append-assoc, append-nil, getD-take, length-set, length-take, take-more, take-more-set, take-all}
+use Rattle.std.proofs.shelf.Lists.{append-assoc, append-nil, getD-take, length-set, take-more, take-more-set, take-all}
 use Rattle.graph.specs.declared.refusal.Refusal.{Refusal}
 use Rattle.graph.specs.declared.refusal.Refusal.the-variants.{ShortBuffer, TooDense, NoMemory}
 use Rattle.finite.proofs.Members.{length-members}
@@ -105,12 +105,6 @@ lines-take col m zero l = refl
 lines-take col m (suc n) l =
     ap (λ x. x ++ numbers-line 100 (n ∷ getD (take m col) n 0 ∷ [])) (lines-take col m n (omega arith))
     ∙ ap (λ (v : ℕ). drive-lines col n ++ numbers-line 100 (n ∷ v ∷ [])) (getD-take m col n 0 (omega arith))
-
--- the block's numbers are in its first places
-pub block-fits : (g : Graph) (block : List ℕ) (b : ℕ) → Block-in g (held g) block b → length block ≡ 64 → b ≤ 64
-block-fits g block b w e =
-    let m = ap length (w .front) ∙ length-members (w .set) (g .size) ∙ w .largest .many in
-    let t = length-take b block in omega arith
 
 pub form-sized : (os ns before after paint painted kept block part out : List ℕ) (len d k n b : ℕ) → n ≡ rows os → Planned-in (listed os ns) before after paint painted len d k → d ≤ 63 → Block-in (listed os ns) (held (listed os ns)) kept b → block ≡ take b kept → part ≡ take n painted → length part ≡ n → out ≡ printout (length part) len d k block part → Form-sized os ns out
 form-sized os ns before after paint painted kept block part out len d k n b z p h w g e m t =

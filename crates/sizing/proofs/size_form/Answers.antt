@@ -15,7 +15,7 @@ use Rattle.rows.proofs.Props.{sound-of}
 use Rattle.degeneracy.specs.Order.{Is-order, Is-peak}
 use Rattle.climbing.specs.Climbs.{Block-in}
 use Rattle.climbing.proofs.Later.{order-once}
-use Rattle.sizing.proofs.Sizes.{plan-dense, block-fits, form-sized, front-is}
+use Rattle.sizing.proofs.Sizes.{plan-dense, form-sized, front-is}
 use Rattle.sizing.proofs.size_form.Needs as need
 use Rattle.sizing.proofs.size_form.Needs.{In-Continue-count}
 
@@ -42,10 +42,10 @@ found c =
     let f = c .args .form .now in
     let g = listed (vec-items (f .offsets)) (vec-items (f .neighbours)) in
     let e = front-is (c .plan .last .order) (c .in-Continue-planned .planned .len) in
-    c .in-Continue-count .ensures tt .cases (order-once g _ (subst (Is-order g) (sym e) (c .in-Continue-planned .ensures tt .0 .ordered .order)))
+    c .in-Continue-count .ensures tt .cases .1 (order-once g _ (subst (Is-order g) (sym e) (c .in-Continue-planned .ensures tt .0 .ordered .order)))
 
 few : (c : In-Continue-count) → c .in-Continue-count .count ≤ 64
-few c = block-fits (listed (vec-items (c .args .form .now .offsets)) (vec-items (c .args .form .now .neighbours))) (c .climb-all .last .block) (c .in-Continue-count .count) (found c) (omega arith)
+few c = c .in-Continue-count .ensures tt .cases .0
 
 pub part-write-sizing-end : need.part-write-sizing-end
 part-write-sizing-end c = let h = few (need.at·part-write-sizing-end c .In-Continue-count) in omega arith
