@@ -1,6 +1,6 @@
 // The climb: a largest clique of a graph, vertex by vertex from the end of an order.
 ghost use Prim.Native.Nat.{ℕ, _<_, _≤_};
-ghost use Rattle.climbing.specs.Climbs.{Block-in, Climb-refused, Climbs, Each-once, Searched, Step-refused, later-list, picked, plus};
+ghost use Rattle.climbing.specs.Climbs.{Block-in, Climb-refused, Climbs, Each-once, Few-later, Searched, Step-refused, later-list, picked, plus};
 ghost use Rattle.degeneracy.specs.Order.{Is-order, Is-peak};
 ghost use Rattle.finite.specs.Finite.{count, members};
 ghost use Rattle.graph.specs.Graph.{held};
@@ -135,7 +135,7 @@ pub fn climb_all<S: Source, B: Bound>(
     order: &[u16],
     block: &mut [u16; 64],
 ) -> Result<usize, Refusal>
-    ensures cases { λ r. ⌜ Cases r (λ b. (b ≤ 64) × (Each-once (S·Source .graph (now (source .entry))) (now (order .entry)) → Block-in (S·Source .graph (now (source .entry))) (held (S·Source .graph (now (source .entry)))) (now (block .exit)) b)) (λ x. Climb-refused (S·Source .graph (now (source .entry))) (now (order .entry)) x × (now (block .exit) ≡ now (block .entry))) ⌝ }
+    ensures cases { λ r. ⌜ Cases r (λ b. (b ≤ 64) × Few-later (S·Source .graph (now (source .entry))) (now (order .entry)) 0 × (Each-once (S·Source .graph (now (source .entry))) (now (order .entry)) → Block-in (S·Source .graph (now (source .entry))) (held (S·Source .graph (now (source .entry)))) (now (block .exit)) b)) (λ x. Climb-refused (S·Source .graph (now (source .entry))) (now (order .entry)) x × (now (block .exit) ≡ now (block .entry))) ⌝ }
     ensures succeeds { λ r. ⌜ ((m : ℕ) → Is-order (S·Source .graph (now (source .entry))) (now (order .entry)) → Is-peak (S·Source .graph (now (source .entry))) (now (order .entry)) m → m ≤ 63 → isOk r ≡ true) ⌝ }
 {
     let mut best = [0u16; 64];

@@ -10,7 +10,7 @@ use lib.Dec.{eqb, ltb}
 use lib.ListN.{length, getD, set, take, drop}
 use lib.Seq.{drop-cons, drop-length}
 use Rattle.std.proofs.shelf.Lists.{append-nil, length-push, length-take-le, take-more-set}
-use Rattle.std.proofs.shelf.Tests.{and-parts, both-ways, ne-eqb, or-right, or-from, and-left, and-right}
+use Rattle.std.proofs.shelf.Tests.{cases-eq, and-parts, both-ways, ne-eqb, or-right, or-from, and-left, and-right}
 use Rattle.std.specs.declared.option.Option.the-variants.{Some, None}
 use Rattle.finite.specs.Finite.{any, count, has, members}
 use Rattle.finite.specs.Masks.{bit}
@@ -23,7 +23,7 @@ use Rattle.graph.proofs.Graphs.{clash-right}
 use Rattle.degeneracy.specs.Order.{Is-order, Is-peak}
 use Rattle.pictures.specs.declared.shape.Picture.{Picture}
 use Rattle.searching.specs.Answers.{AtMost, Largest}
-use Rattle.climbing.specs.Climbs.{At-most, Largest-among, Each-once, Block-in, Climbs, Searched, Step-refused, Climb-refused, backward, later, later-list, last, near, picked, plus}
+use Rattle.climbing.specs.Climbs.{At-most, Largest-among, Each-once, Block-in, Climbs, Searched, Few-later, Step-refused, Climb-refused, backward, later, later-list, last, near, picked, plus}
 use Rattle.climbing.proofs.Steps.{most-same, largest-same, largest-plus, largest-stays, count-plus, plus-few}
 use Rattle.climbing.proofs.Later.{Apart, backward-none, backward-yes, backward-no, backward-drop, later-has, later-apart, last-is, last-more, order-few}
 use Rattle.climbing.proofs.Numbers.{number-empty, all-climbed}
@@ -98,7 +98,10 @@ none-larger pic m h =
 
 -- ---- what the step makes of the block
 
-module _ (g : Graph) (p q : List ℕ) (i : ℕ) (is : q ≡ later-list g p i) (law : Lawful g) where
+module _ (g : Graph) (p q : List ℕ) (i : ℕ) (is : q ≡ later-list g p i) (law : Lawful g) (l : i < length p) (short : length q ≤ 63) where
+  q-few : length (later-list g p i) ≤ 63
+  q-few = omega (arith, ap length is)
+
   q-has : (c : ℕ) → has q c ≡ later g p i c
   q-has c = ap (λ (l : List ℕ). has l c) is ∙ later-has g p i c
 
@@ -112,8 +115,10 @@ module _ (g : Graph) (p q : List ℕ) (i : ℕ) (is : q ≡ later-list g p i) (l
   q-last : (j : ℕ) → i + j + 1 ≡ length p → (c : ℕ) → has q c ≡ near g (last p j) (getD p i 0) c
   q-last j e c = q-has c ∙ ap (λ (k : ℕ). has (drop k p) c && clash g (getD p i 0) c) (sym (last-is p i j e))
 
-  pub climbs-larger : (before after : List ℕ) (a b k : ℕ) → i < length p → length q ≤ 63 → Searched g q a (Some k) → b ≡ count (plus (getD p i 0) (picked q k)) (g .size) → take b after ≡ members (plus (getD p i 0) (picked q k)) (g .size) → Climbs g p i before after a b
-  climbs-larger before after a b k l short sr many front = record {
+  pub climbs-larger : (before after : List ℕ) (a b k : ℕ) → Searched g q a (Some k) → b ≡ count (plus (getD p i 0) (picked q k)) (g .size) → take b after ≡ members (plus (getD p i 0) (picked q k)) (g .size) → Climbs g p i before after a b
+  climbs-larger before after a b k sr many front = record {
+    within = l;
+    few = q-few;
     bound = λ _. omega (arith, many, block-few q k (getD p i 0) (g .size));
     step = λ j once e old.
         let lg = largest-same g (has q) (near g (last p j) (getD p i 0)) (picked q k) (count (bit k) 64) (λ c t. sym (q-last j e c) ∙ t) (λ c t. q-last j e c ∙ t) (among once) in
@@ -130,7 +135,9 @@ module _ (g : Graph) (p q : List ℕ) (i : ℕ) (is : q ≡ later-list g p i) (l
       among once = largest-drawn g q (sr .picture) (sr .mask) (sr .draws) (q-apart once) q-held (sr .full) k (sr .found .0)
 
   pub climbs-kept : (block : List ℕ) (a b : ℕ) → (Each-once g p → At-most g (has q) b) → b < a → Climbs g p i block block a a
-  climbs-kept block a b few l = record {
+  climbs-kept block a b few less-than = record {
+    within = l;
+    few = q-few;
     bound = λ h. h;
     step = λ j once e old.
         let less = most-same g (has q) (near g (last p j) (getD p i 0)) b (λ c t. q-last j e c ∙ t) (few once) in
@@ -145,7 +152,7 @@ module _ (g : Graph) (p q : List ℕ) (i : ℕ) (is : q ≡ later-list g p i) (l
 
   -- there are too few later neighbours
   pub climbs-few : (block : List ℕ) (a : ℕ) → length q < a → Climbs g p i block block a a
-  climbs-few block a l = climbs-kept block a (length q) (λ once. most-listed g q) l
+  climbs-few block a less-than = climbs-kept block a (length q) (λ once. most-listed g q) less-than
 
 -- ---- whether a number is picked
 
@@ -192,6 +199,16 @@ module _ (g : Graph) (p : List ℕ) where
   climb-more before after i a b pos le cl old once =
       let e : length p - i + 1 ≡ length p - (i - 1) = omega arith in
       subst (λ (j : ℕ). Block-in g (last p j) after b) e (cl .step (length p - i) once (omega arith) (old once))
+
+  pub few-none : (i : ℕ) → i ≡ length p → Few-later g p i
+  few-none i e k h l = absurd (omega arith)
+
+  pub few-more : (i : ℕ) → 0 < i → length (later-list g p (i - 1)) ≤ 63 → Few-later g p i → Few-later g p (i - 1)
+  few-more i pos here rest k h l =
+      elim (cases-eq k (i - 1)) [ inl e ↦ subst (λ (n : ℕ). length (later-list g p n) ≤ 63) (sym e) here | inr ne ↦ rest k (omega arith) l ]
+
+  pub few-all : (i : ℕ) → i ≡ 0 → Few-later g p i → Few-later g p 0
+  few-all i e f k h l = f k (omega arith) l
 
   pub climb-all : (block : List ℕ) (i b : ℕ) → i ≡ 0 → (Each-once g p → Block-in g (last p (length p - i)) block b) → Each-once g p → Block-in g (held g) block b
   climb-all block i b z old once =

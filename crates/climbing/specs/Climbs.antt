@@ -79,6 +79,8 @@ pub record Block-in (g : Graph) (s : ℕ → Bool) (block : List ℕ) (b : ℕ) 
 -- what the step at place i makes of a block of a members: one of b members, the old one or a larger
 pub record Climbs (g : Graph) (p : List ℕ) (i : ℕ) (before after : List ℕ) (a b : ℕ) : Type 0 where
   pub step : (j : ℕ) → Each-once g p → i + j + 1 ≡ length p → Block-in g (last p j) before a → Block-in g (last p (j + 1)) after b
+  pub within : i < length p
+  pub few : length (later-list g p i) ≤ 63
   pub bound : a ≤ 64 → b ≤ 64
   pub larger : Each-once g p → ((a < b) ⊎ ((b ≡ a) × (after ≡ before)))
 
@@ -86,6 +88,10 @@ pub record Climbs (g : Graph) (p : List ℕ) (i : ℕ) (before after : List ℕ)
 abbrev pub Step-refused : Graph → List ℕ → ℕ → Refusal → Type 0
 Step-refused g p i x =
     ((x ≡ OutOfRange) × (length p ≤ i)) ⊎ ((x ≡ TooDense) × (i < length p) × (63 < length (later-list g p i)))
+
+-- no vertex from place i on has more than 63 later neighbours
+abbrev pub Few-later : Graph → List ℕ → ℕ → Type 0
+Few-later g p i = (k : ℕ) → i ≤ k → k < length p → length (later-list g p k) ≤ 63
 
 -- the vertex at some place has more than 63 later neighbours
 abbrev pub Climb-refused : Graph → List ℕ → Refusal → Type 0

@@ -2,16 +2,25 @@ use mathlib.Core.Path.{_≡_, refl}
 use Prim.Native.Nat.{_-_}
 use native.Mathlib.Omega.{arith}
 use Rattle.std.proofs.shelf.Results.{err-from-errBy}
-use Rattle.climbing.proofs.Blocks.{climb-none, climb-more, climb-all, refused-dense, never-dense}
+use Rattle.climbing.proofs.Blocks.{climb-none, climb-more, climb-all, few-none, few-more, few-all, refused-dense, never-dense}
 use Rattle.climb.proofs.climb_all.Needs as need
 
 pub loop-at-holds : need.loop-at-holds
 loop-at-holds g c =
-    (omega arith, climb-none (g .S·Source .graph (c .args .source .now)) (c .args .order .now) _ _ refl)
+    let G = g .S·Source .graph (c .args .source .now) in
+    let p = c .args .order .now in
+    (omega arith, few-none G p _ refl, climb-none G p _ _ refl)
 
 pub loop-at-again : need.loop-at-again
 loop-at-again g c =
-    (c .in-Continue-len .ensures tt .cases .bound (c .loop-at .inv .0), climb-more (g .S·Source .graph (c .args .source .now)) (c .args .order .now) (c .loop-at .best) (c .climb-step .last .block) (c .loop-at .at) (c .loop-at .len) (c .in-Continue-len .len) (omega arith) (omega arith) (c .in-Continue-len .ensures tt .cases) (c .loop-at .inv .1))
+    let G = g .S·Source .graph (c .args .source .now) in
+    let p = c .args .order .now in
+    let e = c .in-Continue-len .ensures tt .cases in
+    let inv = c .loop-at .inv in (
+      e .bound (inv .0),
+      few-more G p (c .loop-at .at) (omega arith) (e .few) (inv .1),
+      climb-more G p (c .loop-at .best) (c .climb-step .last .block) (c .loop-at .at) (c .loop-at .len) (c .in-Continue-len .len) (omega arith) (omega arith) e (inv .2),
+    )
 
 pub returns-in-Break-len : need.returns-in-Break-len
 returns-in-Break-len g c =
@@ -23,7 +32,10 @@ returns-in-Break-len g c =
 
 pub returns : need.returns
 returns g c =
+    let G = g .S·Source .graph (c .args .source .now) in
+    let p = c .args .order .now in
+    let inv = c .loop-at .inv in
     record {
-      cases = (c .loop-at .inv .0, climb-all (g .S·Source .graph (c .args .source .now)) (c .args .order .now) (c .loop-at .best) (c .loop-at .at) (c .loop-at .len) (omega arith) (c .loop-at .inv .1));
+      cases = (inv .0, few-all G p (c .loop-at .at) (omega arith) (inv .1), climb-all G p (c .loop-at .best) (c .loop-at .at) (c .loop-at .len) (omega arith) (inv .2));
       succeeds = λ m o k l. refl;
     }
