@@ -33,8 +33,9 @@ module _ (g : Graph) (p : List ℕ) (old col new : ℕ → ℕ) (a : Put-back g 
       let x = getD p i 0 in
       let l : i < length p = omega arith in
       elim (cases-eq c x) [
-        inr ne ↦ agree m (i + 1) (omega arith) c (sym (lives-more g p i c l ne) ∙ y)
-      | inl q ↦ ap col q ∙ lowest-one g (survivors g (take (i + 1) p)) new x (col x) (new x) (lowest-same g (survivors g (take (i + 1) p)) col new x (col x) (agree m (i + 1) (omega arith)) (a .each i l)) (b .each i l) ∙ ap new (sym q) ]
+        | inr ne ↦ agree m (i + 1) (omega arith) c (sym (lives-more g p i c l ne) ∙ y)
+        | inl q ↦ ap col q ∙ lowest-one g (survivors g (take (i + 1) p)) new x (col x) (new x) (lowest-same g (survivors g (take (i + 1) p)) col new x (col x) (agree m (i + 1) (omega arith)) (a .each i l)) (b .each i l) ∙ ap new (sym q)
+      ]
 
   same-at : (i : ℕ) → i < length p → col (getD p i 0) ≡ new (getD p i 0)
   same-at i l =
@@ -99,21 +100,24 @@ module _ (g : Graph) (p : List ℕ) (i : ℕ) (old paint : List ℕ) (r : ℕ) (
   living : (b k : ℕ) → held g b ≡ true → 1 ≤ k → getD paint b 0 ≡ k → survivors g (take (i + 1) p) b ≡ true
   living b k y one e =
       elim (left-or-taken g (take (i + 1) p) b y) [
-        inl h ↦ h
-      | inr w ↦ absurd (
-          let n = length-take-le (i + 1) p (omega arith) in
-          let j = w .0 in
-          let m : j < i + 1 = omega (arith, w .1) in
-          let q : getD p j 0 ≡ b = sym (getD-take (i + 1) p j 0 m) ∙ w .2 in
-          let z = s .blank j m in
-          let u = ap (λ v. getD paint v 0) q in omega arith) ]
+        | inl h ↦ h
+        | inr w ↦ absurd (
+            let n = length-take-le (i + 1) p (omega arith) in
+            let j = w .0 in
+            let m : j < i + 1 = omega (arith, w .1) in
+            let q : getD p j 0 ≡ b = sym (getD-take (i + 1) p j 0 m) ∙ w .2 in
+            let z = s .blank j m in
+            let u = ap (λ v. getD paint v 0) q in omega arith)
+      ]
 
   here : Lowest g (survivors g (take (i + 1) p)) (λ c. getD (set paint (getD p i 0) r) c 0) (getD p i 0) r
   here =
-      record { from-one = a .from-one
-      ; free = λ b n k z. a .free b (clash-right g (getD p i 0) b k) k (sym (off b (apart b k)) ∙ z)
-      ; below = λ k one low. let w = a .below k one low in
-          (w .0, living (w .0) k (w .1) one (w .3), w .2, off (w .0) (apart (w .0) (w .2)) ∙ w .3) }
+      record {
+        from-one = a .from-one;
+        free = λ b n k z. a .free b (clash-right g (getD p i 0) b k) k (sym (off b (apart b k)) ∙ z);
+        below = λ k one low. let w = a .below k one low in
+            (w .0, living (w .0) k (w .1) one (w .3), w .2, off (w .0) (apart (w .0) (w .2)) ∙ w .3);
+      }
 
   later : (j : ℕ) → i < j → j < length p → Lowest g (survivors g (take (j + 1) p)) (λ c. getD (set paint (getD p i 0) r) c 0) (getD p j 0) (getD (set paint (getD p i 0) r) (getD p j 0) 0)
   later j lt m =
@@ -123,8 +127,11 @@ module _ (g : Graph) (p : List ℕ) (i : ℕ) (old paint : List ℕ) (r : ℕ) (
 
   pub back-more : Back g p i old (set paint (getD p i 0) r)
   back-more =
-      record { each = λ j h m. elim (cases-eq j i) [
-          inl e ↦ subst (λ v. Lowest g (survivors g (take (v + 1) p)) (λ c. getD (set paint (getD p i 0) r) c 0) (getD p v 0) (getD (set paint (getD p i 0) r) (getD p v 0) 0)) (sym e) (rw same here)
-        | inr ne ↦ later j (omega arith) m ]
-      ; blank = λ j h. off (getD p j 0) (λ q. (let e = taken-once g p j i tk (omega arith) l q in omega arith)) ∙ s .blank j (omega arith)
-      ; keeps = λ c n. off c (λ q. both-ways (has p c) n (ap (has p) q ∙ has-at p i l)) ∙ s .keeps c n }
+      record {
+        each = λ j h m. elim (cases-eq j i) [
+          | inl e ↦ subst (λ v. Lowest g (survivors g (take (v + 1) p)) (λ c. getD (set paint (getD p i 0) r) c 0) (getD p v 0) (getD (set paint (getD p i 0) r) (getD p v 0) 0)) (sym e) (rw same here)
+          | inr ne ↦ later j (omega arith) m
+        ];
+        blank = λ j h. off (getD p j 0) (λ q. (let e = taken-once g p j i tk (omega arith) l q in omega arith)) ∙ s .blank j (omega arith);
+        keeps = λ c n. off c (λ q. both-ways (has p c) n (ap (has p) q ∙ has-at p i l)) ∙ s .keeps c n;
+      }

@@ -22,8 +22,7 @@ lead g col c =
 pub used-suffice : (g : Graph) (col : ℕ → ℕ) → Proper g col → Colourable g (used g col)
 unfolding used
 used-suffice g col h =
-    let at : ℕ → ℕ = λ c. lead g col c .0 in
-    (
+    let at : ℕ → ℕ = λ c. lead g col c .0 in (
       (λ c. count (leads g col) (at c) + 1),
       record {
         low = λ c y. omega arith;

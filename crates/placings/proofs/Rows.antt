@@ -38,14 +38,15 @@ module _ (rows : List ℕ) (i j m : ℕ) (fits : 4 * i + j / 64 < length rows) (
   pub linked-off : (b : ℕ) → b < 256 → (b ≡ j → ⊥) → linked (set rows (4 * i + j / 64) m) i b ≡ linked rows i b
   linked-off b bl ne =
       elim (cases-eq (4 * i + b / 64) (4 * i + j / 64)) [
-        inr other ↦ linked-other i b bl other
-      | inl e ↦ let n : b % 64 ≡ j % 64 → ⊥ = λ q. ne (omega arith) in
-          let f = ne-eqb (b % 64) (j % 64) n in
-          ap (λ (x : ℕ). bit (getD (set rows (4 * i + j / 64) m) x 0) (b % 64)) e
-          ∙ ap (λ (x : ℕ). bit x (b % 64)) (getD-set-same rows (4 * i + j / 64) m 0 fits)
-          ∙ is (b % 64)
-          ∙ (let z : (bit (getD rows (4 * i + j / 64) 0) (b % 64) || eqb (b % 64) (j % 64)) ≡ bit (getD rows (4 * i + j / 64) 0) (b % 64) = grind (arith, tells) in z)
-          ∙ ap (λ (x : ℕ). bit (getD rows x 0) (b % 64)) (sym e) ]
+        | inr other ↦ linked-other i b bl other
+        | inl e ↦ let n : b % 64 ≡ j % 64 → ⊥ = λ q. ne (omega arith) in
+            let f = ne-eqb (b % 64) (j % 64) n in
+            ap (λ (x : ℕ). bit (getD (set rows (4 * i + j / 64) m) x 0) (b % 64)) e
+            ∙ ap (λ (x : ℕ). bit x (b % 64)) (getD-set-same rows (4 * i + j / 64) m 0 fits)
+            ∙ is (b % 64)
+            ∙ (let z : (bit (getD rows (4 * i + j / 64) 0) (b % 64) || eqb (b % 64) (j % 64)) ≡ bit (getD rows (4 * i + j / 64) 0) (b % 64) = grind (arith, tells) in z)
+            ∙ ap (λ (x : ℕ). bit (getD rows x 0) (b % 64)) (sym e)
+      ]
 
 -- row i is filled up to j, by the test C, and the others are as they were
 pub record Row (C : ℕ → Bool) (i j : ℕ) (before rows : List ℕ) : Type 0 where
@@ -61,21 +62,27 @@ row-none C i rows e f =
 pub row-yes : (C : ℕ → Bool) (i j m : ℕ) (before rows : List ℕ) → i < 256 → j < 256 → Row C i j before rows → C j ≡ true → ((b : ℕ) → bit m b ≡ (bit (getD rows (4 * i + j / 64) 0) b || eqb b (j % 64))) → Row C i (j + 1) before (set rows (4 * i + j / 64) m)
 row-yes C i j m before rows il jl s y is =
     let fits : 4 * i + j / 64 < length rows = omega (arith, s .long) in
-    record { long = simp length-set (s .long)
-    ; done = λ b l. elim (cases-eq b j) [
-        inl e ↦ subst (λ v. linked (set rows (4 * i + j / 64) m) i v ≡ C v) (sym e) (linked-same rows i j m fits jl is ∙ sym y)
-      | inr ne ↦ linked-off rows i j m fits jl is b (omega arith) ne ∙ s .done b (omega arith) ]
-    ; blank = λ b l bl. linked-off rows i j m fits jl is b bl (λ e. omega arith) ∙ s .blank b (omega arith) bl
-    ; others = λ a b ne bl. linked-row rows i j m fits jl is a b bl ne ∙ s .others a b ne bl }
+    record {
+      long = simp length-set (s .long);
+      done = λ b l. elim (cases-eq b j) [
+        | inl e ↦ subst (λ v. linked (set rows (4 * i + j / 64) m) i v ≡ C v) (sym e) (linked-same rows i j m fits jl is ∙ sym y)
+        | inr ne ↦ linked-off rows i j m fits jl is b (omega arith) ne ∙ s .done b (omega arith)
+      ];
+      blank = λ b l bl. linked-off rows i j m fits jl is b bl (λ e. omega arith) ∙ s .blank b (omega arith) bl;
+      others = λ a b ne bl. linked-row rows i j m fits jl is a b bl ne ∙ s .others a b ne bl;
+    }
 
 pub row-no : (C : ℕ → Bool) (i j : ℕ) (before rows : List ℕ) → j < 256 → Row C i j before rows → C j ≡ false → Row C i (j + 1) before rows
 row-no C i j before rows jl s y =
-    record { long = s .long
-    ; done = λ b l. elim (cases-eq b j) [
-        inl e ↦ subst (λ v. linked rows i v ≡ C v) (sym e) (s .blank j (omega arith) jl ∙ sym y)
-      | inr ne ↦ s .done b (omega arith) ]
-    ; blank = λ b l bl. s .blank b (omega arith) bl
-    ; others = s .others }
+    record {
+      long = s .long;
+      done = λ b l. elim (cases-eq b j) [
+        | inl e ↦ subst (λ v. linked rows i v ≡ C v) (sym e) (s .blank j (omega arith) jl ∙ sym y)
+        | inr ne ↦ s .done b (omega arith)
+      ];
+      blank = λ b l bl. s .blank b (omega arith) bl;
+      others = s .others;
+    }
 
 -- the rows below i are filled, the others blank
 pub record Rows (C : ℕ → ℕ → Bool) (n i : ℕ) (rows : List ℕ) : Type 0 where
@@ -89,8 +96,11 @@ rows-none C n =
 
 pub rows-more : (C : ℕ → ℕ → Bool) (n i : ℕ) (before after : List ℕ) → n ≤ 256 → length after ≡ 1024 → Rows C n i before → ((b : ℕ) → b < n → linked after i b ≡ C i b) → ((a b : ℕ) → (a ≡ i → ⊥) → b < 256 → linked after a b ≡ linked before a b) → Rows C n (i + 1) after
 rows-more C n i before after nl long s here others =
-    record { long = long
-    ; done = λ a b l m. elim (cases-eq a i) [
-        inl e ↦ subst (λ v. linked after v b ≡ C v b) (sym e) (here b m)
-      | inr ne ↦ others a b ne (omega arith) ∙ s .done a b (omega arith) m ]
-    ; blank = λ a b l m. others a b (λ e. omega arith) m ∙ s .blank a b (omega arith) m }
+    record {
+      long = long;
+      done = λ a b l m. elim (cases-eq a i) [
+        | inl e ↦ subst (λ v. linked after v b ≡ C v b) (sym e) (here b m)
+        | inr ne ↦ others a b ne (omega arith) ∙ s .done a b (omega arith) m
+      ];
+      blank = λ a b l m. others a b (λ e. omega arith) m ∙ s .blank a b (omega arith) m;
+    }

@@ -80,7 +80,15 @@ fn place(kernel: &Kernel, table: &mut [u16], c: usize, used: usize, k: usize) ->
 }
 
 // Gives place `c` one of the colours that are left above `base`, and colours the places after it.
-fn choose(kernel: &Kernel, table: &mut [u16], c: usize, base: usize, left: u64, used: usize, k: usize) -> bool
+fn choose(
+    kernel: &Kernel,
+    table: &mut [u16],
+    c: usize,
+    base: usize,
+    left: u64,
+    used: usize,
+    k: usize,
+) -> bool
     requires ready { ⌜ Ready-at (now kernel) k used c (now table) ⌝ }
     requires place { ⌜ c < places (now kernel) ⌝ }
     requires low { ⌜ base ≤ used ⌝ }

@@ -26,6 +26,10 @@ impl Kernel {
     pub fn word(&self, i: usize, w: usize) -> u64
         ensures { λ r. ⌜ (i < 256 → w < 4 → r ≡ word-at (now (self .entry)) i w) ⌝ }
     {
-        if i < 256 && w < 4 { self.rows[4 * i + w] } else { 0 }
+        if i < 256 && w < 4 {
+            self.rows[4 * i + w]
+        } else {
+            0
+        }
     }
 }

@@ -1,11 +1,11 @@
+use borrow.Author.Needs.{needs}
 use Prim.Native.Nat.{ℕ, _+_, min}
 use mathlib.Core.List.{List}
-use mathlib.Core.Path.{_≡_, refl, ap, _∙_, subst}
-use mathlib.Core.Logic.{inl, inr}
+use mathlib.Core.Path.{_≡_, sym, ap, _∙_, subst}
 use native.Mathlib.Omega.{arith}
 use lib.ListN.{set, getD}
 use Rattle.kernels.specs.Kernels.{places, joined}
-use Rattle.trials.specs.Trials.{Chosen}
+use Rattle.trials.specs.Trials.{Chosen, Ready-at}
 use Rattle.placings.proofs.Steps.{put-undone, no-put, stuck-last, chosen-page, chosen-next, placed-cut, filled-all, filled-back, ready-more, left-fewer}
 use Rattle.trials.proofs.+choose+place.Needs as need
 use Rattle.trials.proofs.+choose+place.Needs.{choose-then-base-k·by·then-base-k, choose-then-base-k·by·else-base-k·then-base-used}
@@ -42,3 +42,17 @@ choose-returns t c =
 pub place-returns : need.place-returns
 place-returns t c =
     placed-cut (places (c .args .kernel .now)) (joined (c .args .kernel .now)) (c .args .k) (c .args .c) (c .args .used) (c .open-left .result) (c .args .table .now) (c .choose .last .table) (c .choose .result) (c .pre) (omega arith) (c .open-left .ensures) (c .choose .ensures)
+
+pub choose-place-requires : need.choose-place-requires
+choose-place-requires t c κs =
+    let q = c .args .kernel .now in
+    let k = c .args .k in
+    let p = c .args .c in
+    let used = c .args .used in
+    let j = c .lowest-j .result in
+    let d : ℕ = c .args .base + j + 1 in
+    let m = c .lowest-j .ensures .member in
+    let hi = c .pre .left .high j m in (
+      search needs,
+      subst (λ (u : ℕ). Ready-at q k u (p + 1) (set (c .args .table .now) p d)) (sym (c .max .ensures)) (ready-more (places q) (joined q) k used p d (c .args .table .now) (q .even) (q .loopless) (c .pre .ready) (c .pre .place) (omega arith) (omega arith) (omega arith) (c .pre .left .free j m)),
+    )
