@@ -1,0 +1,4 @@
+pub mod Rows
+pub mod Swaps
+pub mod Steps
+pub mod Words

@@ -1,0 +1,4 @@
+pub mod Rows
+pub mod Colours
+pub mod Tries
+pub mod Theorems

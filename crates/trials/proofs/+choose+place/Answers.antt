@@ -1,0 +1,58 @@
+use borrow.Author.Needs.{needs}
+use Prim.Native.Nat.{ℕ, _+_, min}
+use mathlib.Core.List.{List}
+use mathlib.Core.Path.{_≡_, sym, ap, _∙_, subst}
+use native.Mathlib.Omega.{arith}
+use lib.ListN.{set, getD}
+use Rattle.kernels.specs.Kernels.{places, joined}
+use Rattle.trials.specs.Trials.{Chosen, Ready-at}
+use Rattle.placings.proofs.Steps.{put-undone, no-put, stuck-last, chosen-page, chosen-next, placed-cut, filled-all, filled-back, ready-more, left-fewer}
+use Rattle.trials.proofs.+choose+place.Needs as need
+use Rattle.trials.proofs.+choose+place.Needs.{choose-then-base-k·by·then-base-k, choose-then-base-k·by·else-base-k·then-base-used}
+
+pub choose-returns-then-base-k : need.choose-returns-then-base-k
+choose-returns-then-base-k t c =
+    stuck-last (places (c .args .kernel .now)) (joined (c .args .kernel .now)) (c .args .k) (c .args .c) (c .args .base) (c .args .left) (min (c .args .k) (c .args .used + 1)) (c .args .table .now) (c .if-left-eq0 .taken)
+    (elim (c .then-base-k .came) [
+      | choose-then-base-k·by·then-base-k w ↦ omega (arith, w .if-base-k .taken)
+      | choose-then-base-k·by·else-base-k·then-base-used w ↦ omega (arith, w .if-base-used .taken)
+    ])
+
+pub choose-returns-then-left-eq0 : need.choose-returns-then-left-eq0
+choose-returns-then-left-eq0 t c =
+    chosen-page (places (c .args .kernel .now)) (joined (c .args .kernel .now)) (c .args .k) (c .args .c) (c .args .base) (c .args .left) (c .open-next .result) (min (c .args .k) (c .args .used + 1)) (c .args .table .now) (c .choose .last .table) (c .choose .result) (c .pre .place) (c .if-left-eq0 .taken) (c .open-next .ensures) (c .choose .ensures)
+
+pub choose-returns : need.choose-returns
+choose-returns t c =
+    let q = c .args .kernel .now in
+    let k = c .args .k in
+    let p = c .args .c in
+    let base = c .args .base in
+    let j = c .lowest-j .result in
+    let d : ℕ = base + j + 1 in
+    let top : ℕ = min k (c .args .used + 1) in
+    let old = c .args .table .now in
+    let after = c .choose-2 .last .table in
+    let rest = c .without .result in
+    let s = c .if-place .ensures tt in
+    let back : set (c .place .last .table) p (getD old p 0) ≡ old = ap (λ (v : List ℕ). set v p (getD old p 0)) (s .same) ∙ put-undone old p d in
+    chosen-next (places q) (joined q) k p base (c .args .left) rest j top old after (c .choose-2 .result) (no-put (places q) (joined q) k p d old (c .place .last .table) (omega (arith, c .pre .ready .long, c .pre .place)) s) (c .without .ensures .members)
+    (subst (λ (v : List ℕ). Chosen q k p base rest (c .args .used) v after (c .choose-2 .result)) back (c .choose-2 .ensures))
+
+pub place-returns : need.place-returns
+place-returns t c =
+    placed-cut (places (c .args .kernel .now)) (joined (c .args .kernel .now)) (c .args .k) (c .args .c) (c .args .used) (c .open-left .result) (c .args .table .now) (c .choose .last .table) (c .choose .result) (c .pre) (omega arith) (c .open-left .ensures) (c .choose .ensures)
+
+pub choose-place-requires : need.choose-place-requires
+choose-place-requires t c κs =
+    let q = c .args .kernel .now in
+    let k = c .args .k in
+    let p = c .args .c in
+    let used = c .args .used in
+    let j = c .lowest-j .result in
+    let d : ℕ = c .args .base + j + 1 in
+    let m = c .lowest-j .ensures .member in
+    let hi = c .pre .left .high j m in (
+      search needs,
+      subst (λ (u : ℕ). Ready-at q k u (p + 1) (set (c .args .table .now) p d)) (sym (c .max .ensures)) (ready-more (places q) (joined q) k used p d (c .args .table .now) (q .even) (q .loopless) (c .pre .ready) (c .pre .place) (omega arith) (omega arith) (omega arith) (c .pre .left .free j m)),
+    )
