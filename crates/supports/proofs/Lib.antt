@@ -1,0 +1,3 @@
+pub mod Peels
+pub mod Draining
+pub mod Descents
