@@ -13,7 +13,7 @@ use Rattle.finite.specs.Finite.{count, has}
 use Rattle.finite.specs.Supports.{Falls, Within, Supported, Largest}
 use Rattle.finite.proofs.Counts.{count-mono, count-same, count-less, has-none}
 use Rattle.supports.specs.Peel.{Weak, Peels, Counted, Peeled-in, alive, but, without}
-use Rattle.supports.specs.Levels.{Deepest}
+use Rattle.supports.specs.Levels.{Deepest, Deepest-in}
 use Rattle.supports.proofs.Peels.{alive-below, alive-byte, alive-same, peels-member, largest-same, supported-less}
 use Rattle.supports.proofs.Draining.{but-other, but-self, but-same}
 
@@ -127,3 +127,24 @@ descent-all sup n first living counts out after next f d none back =
             inr l ↦ l
           | inl l ↦ absurd (both-ways (alive n living c) (none c) (d .level .covers u (supported-less sup next t (alive n first) u (omega (arith, w .positive)) h) c y)) ]
         ; some = λ c y. (w .item, e (w .item) ∙ w .member) } ]
+
+-- and what that leaves in the bytes
+pub descent-in : (sup : (ℕ → Bool) → ℕ → ℕ) (n : ℕ) (first living counts out after : List ℕ) (next : ℕ) → Falls sup → Descent sup n first living counts out next → ((c : ℕ) → alive n living c ≡ false) → ((c : ℕ) → getD after c 0 ≡ cond (has out c) 1 (getD living c 0)) → ((c : ℕ) → has out c ≡ true → alive n first c ≡ true) → Deepest-in sup n first after (next - 1)
+descent-in sup n first living counts out after next f d none back was =
+    record { deepest = descent-all sup n first living counts out after next f d none back
+    ; lower = λ c. elim (cases-bool (has out c)) [
+        inl y ↦ let b = alive-byte n first c (was c y) in let h = back c in grind (arith, tells)
+      | inr y ↦ let l = d .lower c in let h = back c ∙ cond-false (has out c) 1 (getD living c 0) y in omega arith ]
+    ; rest = λ c l. elim (cases-bool (has out c)) [
+        inl y ↦ absurd (omega (arith, alive-below n first c (was c y)))
+      | inr y ↦ back c ∙ cond-false (has out c) 1 (getD living c 0) y ∙ d .rest c l ] }
+
+-- every count of a living item is `next` or more
+pub descent-up : (sup : (ℕ → Bool) → ℕ → ℕ) (n : ℕ) (first living counts out : List ℕ) (next low : ℕ) → Descent sup n first living counts out next → Lowest-count n living counts low → next ≤ low
+descent-up sup n first living counts out next low d l =
+    omega (arith, d .level .supported .each (l .item) (l .member), d .counted (l .item) (l .member), l .count-is)
+
+-- what is taken out lived at first
+pub descent-was : (sup : (ℕ → Bool) → ℕ → ℕ) (n k : ℕ) (first living living′ counts out taken taken′ : List ℕ) (next len : ℕ) → Descent sup n first living counts out next → Peeled-in sup n k living living′ taken taken′ len → (c : ℕ) → has (take len taken′) c ≡ true → alive n first c ≡ true
+descent-was sup n k first living living′ counts out taken taken′ next len d p c y =
+    d .level .supported .within c (peeled-was sup n k living living′ taken taken′ len p c y)

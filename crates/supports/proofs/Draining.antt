@@ -99,6 +99,20 @@ module _ (sup : (ℕ → Bool) → ℕ → ℕ) (n k : ℕ) (before living count
       let a = s .ahead head (omega arith) here in
       record { member = a; below = omega (arith, ltb-true (getD counts x 0) k (sym (s .weak x a) ∙ in-queue head here), s .counted x a) }
 
+  pub head-below : getD taken head 0 < n
+  head-below = alive-below n living x (s .ahead head (omega arith) here)
+
+  pub tail-le : tail ≤ n
+  tail-le = omega (arith, s .many, count-le (has (take tail taken)) n)
+
+  -- an item that loses a support has one
+  pub losers-positive : (out : List ℕ) → Losers sup n (alive n living) x out → (c : ℕ) → has out c ≡ true → 0 < getD counts c 0
+  losers-positive out lo c y =
+      let a = lo .member c y in
+      let b = lo .less c a (lo .other c y) in
+      let d = cond-true {A = ℕ} (has out c) 1 0 y in
+      omega (arith, s .counted c a)
+
   later : (j : ℕ) → head < j → j < tail → getD taken j 0 ≡ x → ⊥
   later j l h e =
       let t = length-take-le tail taken fits in

@@ -1,0 +1,194 @@
+//! Peeling: taking out items with little support until none is left.
+ghost use mathlib.Core.Path.{_≡_};
+ghost use mathlib.Core.Bool.{Bool, true, false};
+ghost use mathlib.Core.List.{List};
+ghost use Prim.Native.Nat.{ℕ, _<_, _≤_};
+ghost use lib.ListN.{length, getD, take};
+ghost use Rattle.std.specs.Options.{Cases as BySome};
+ghost use Rattle.std.specs.Results.{Cases};
+ghost use Rattle.finite.specs.Supports.{Falls};
+ghost use Rattle.supports.specs.Peel.{Counted, Losers, Peeled-in, alive};
+ghost use Rattle.supports.specs.Levels.{Deepest-in};
+ghost use Rattle.peeling.specs.Peeling.{Clear, Wiped, Same, Fits, Too-large, Peel-refused, Tables};
+use graph::refusal::Refusal;
+use tables::{first_weak, lower, lowest, push_fallen, revive, wipe};
+
+mod tables;
+
+/// At most so many items are peeled.
+pub const MOST: usize = 16384;
+
+/// How many numbers the table has in which items are looked up.
+pub const TABLE: usize = 33792;
+
+/// Items, numbered from 0, each with a support among the living ones: a whole number that never rises when
+/// items are taken out. What gives the items may need a list beside it, and makes a table to look them up.
+pub trait Peeled<T> {
+    ghost items: { Self → List T → ℕ };
+
+    ghost room: { Self → List T → ℕ };
+
+    ghost support: { Self → List T → (ℕ → Bool) → ℕ → ℕ };
+
+    ghost proper: { Self → List T → Type 0 };
+
+    ghost indexed: { Self → List T → List ℕ → Type 0 };
+
+    law falls: { (x : Self) (list : List T) → Falls (support x list) };
+
+    /// How many items there are.
+    fn item_count(&self, list: &[T]) -> usize
+        ensures { λ r. ⌜ r ≡ items (now (self .entry)) (now (list .entry)) ⌝ };
+
+    /// How many marks counting needs.
+    fn mark_count(&self, list: &[T]) -> usize
+        ensures { λ r. ⌜ r ≡ room (now (self .entry)) (now (list .entry)) ⌝ };
+
+    /// Fills the table. Says whether the list is as it has to be.
+    fn index(&self, list: &[T], table: &mut [u16]) -> bool
+        requires few { ⌜ items (now self) (now list) ≤ 16384 ⌝ }
+        requires room { ⌜ 33792 ≤ length (now table) ⌝ }
+        ensures made { λ r. ⌜ (r ≡ true → indexed (now (self .entry)) (now (list .entry)) (now (table .exit))) ⌝ }
+        ensures proper { λ r. ⌜ (r ≡ true → proper (now (self .entry)) (now (list .entry))) ⌝ }
+        ensures test { λ r. ⌜ (r ≡ false → proper (now (self .entry)) (now (list .entry)) → ⊥) ⌝ };
+
+    /// The support of an item among the living ones.
+    fn support_of(&self, list: &[T], table: &[u16], i: usize, living: &[u8], marks: &mut [u8]) -> usize
+        requires ready { ⌜ indexed (now self) (now list) (now table) ⌝ }
+        requires within { ⌜ i < items (now self) (now list) ⌝ }
+        requires lives { ⌜ items (now self) (now list) ≤ length (now living) ⌝ }
+        requires clear { ⌜ Clear (room (now self) (now list)) (now marks) ⌝ }
+        ensures value { λ r. ⌜ r ≡ support (now (self .entry)) (now (list .entry)) (alive (items (now (self .entry)) (now (list .entry))) (now (living .entry))) i ⌝ }
+        ensures bound { λ r. ⌜ r < 65536 ⌝ }
+        ensures same { λ _. ⌜ Same (now (marks .entry)) (now (marks .exit)) ⌝ };
+
+    /// Writes the living items that lose a support when x is taken out. Returns how many they are.
+    fn losers(&self, list: &[T], table: &[u16], x: usize, living: &[u8], marks: &mut [u8], out: &mut [u16]) -> usize
+        requires ready { ⌜ indexed (now self) (now list) (now table) ⌝ }
+        requires member { ⌜ alive (items (now self) (now list)) (now living) x ≡ true ⌝ }
+        requires lives { ⌜ items (now self) (now list) ≤ length (now living) ⌝ }
+        requires lost { ⌜ items (now self) (now list) ≤ length (now out) ⌝ }
+        requires clear { ⌜ Clear (room (now self) (now list)) (now marks) ⌝ }
+        ensures losers { λ r. ⌜ Losers (support (now (self .entry)) (now (list .entry))) (items (now (self .entry)) (now (list .entry))) (alive (items (now (self .entry)) (now (list .entry))) (now (living .entry))) x (take r (now (out .exit))) ⌝ }
+        ensures fits { λ r. ⌜ r ≤ length (now (out .exit)) ⌝ }
+        ensures same { λ _. ⌜ Same (now (marks .entry)) (now (marks .exit)) ⌝ };
+}
+
+// Counts the support of each living item.
+fn count_all<T, P: Peeled<T>>(pool: &P, list: &[T], table: &[u16], living: &[u8], marks: &mut [u8], counts: &mut [u16])
+    requires ready { ⌜ P·Peeled .indexed (now pool) (now list) (now table) ⌝ }
+    requires lives { ⌜ P·Peeled .items (now pool) (now list) ≤ length (now living) ⌝ }
+    requires counted { ⌜ P·Peeled .items (now pool) (now list) ≤ length (now counts) ⌝ }
+    requires clear { ⌜ Clear (P·Peeled .room (now pool) (now list)) (now marks) ⌝ }
+    ensures counted { λ _. ⌜ Counted (P·Peeled .support (now (pool .entry)) (now (list .entry))) (P·Peeled .items (now (pool .entry)) (now (list .entry))) (now (living .entry)) (now (counts .exit)) ⌝ }
+    ensures same { λ _. ⌜ Same (now (marks .entry)) (now (marks .exit)) ⌝ }
+{
+    for i in 0..pool.item_count(list) {
+        if living[i] == 1 {
+            counts[i] = pool.support_of(list, table, i, living, marks) as u16;
+        }
+    }
+}
+
+// Takes out items with a support below `least` until none is left. Whoever falls below it is queued in `taken`
+// behind those that are taken out already. Returns how many were taken out.
+fn drain<T, P: Peeled<T>>(pool: &P, list: &[T], table: &[u16], least: usize, living: &mut [u8], marks: &mut [u8], counts: &mut [u16], taken: &mut [u16], out: &mut [u16]) -> usize
+    requires ready { ⌜ P·Peeled .indexed (now pool) (now list) (now table) ⌝ }
+    requires tables { ⌜ Tables (P·Peeled .items (now pool) (now list)) (length (now living)) (length (now counts)) (length (now taken)) (length (now out)) ⌝ }
+    requires clear { ⌜ Clear (P·Peeled .room (now pool) (now list)) (now marks) ⌝ }
+    requires counted { ⌜ Counted (P·Peeled .support (now pool) (now list)) (P·Peeled .items (now pool) (now list)) (now living) (now counts) ⌝ }
+    ensures peeled { λ r. ⌜ Peeled-in (P·Peeled .support (now (pool .entry)) (now (list .entry))) (P·Peeled .items (now (pool .entry)) (now (list .entry))) least (now (living .entry)) (now (living .exit)) (now (taken .entry)) (now (taken .exit)) r ⌝ }
+    ensures counted { λ _. ⌜ Counted (P·Peeled .support (now (pool .entry)) (now (list .entry))) (P·Peeled .items (now (pool .entry)) (now (list .entry))) (now (living .exit)) (now (counts .exit)) ⌝ }
+    ensures same { λ _. ⌜ Same (now (marks .entry)) (now (marks .exit)) ⌝ }
+{
+    let n = pool.item_count(list);
+    let mut tail = first_weak(living, counts, n, least, taken);
+    let mut head = 0;
+    while head < tail {
+        let x = taken[head] as usize;
+        let lost = pool.losers(list, table, x, living, marks, out);
+        living[x] = 0;
+        lower(out, lost, n, counts);
+        tail = push_fallen(out, lost, n, counts, least, taken, tail);
+        head += 1;
+    }
+    tail
+}
+
+// What refuses n items with `room` marks in buffers of these lengths.
+fn refusal(n: usize, room: usize, living: usize, marks: usize, taken: usize) -> Option<Refusal>
+    ensures { λ r. ⌜ BySome r (Fits n room living marks taken) (Too-large n room living marks taken) ⌝ }
+{
+    if n > MOST {
+        return Some(Refusal::TooLarge);
+    }
+    if living < n || marks < room || taken < n {
+        return Some(Refusal::ShortBuffer);
+    }
+    None
+}
+
+/// Takes out items with a support below `least` until no living item has one. The items whose byte in `living` is
+/// 1 live; what is taken out gets 0, and is written to `taken` in its order. Returns how many were taken out.
+pub fn peel<T, P: Peeled<T>>(pool: &P, list: &[T], least: usize, living: &mut [u8], marks: &mut [u8], taken: &mut [u16]) -> Result<usize, Refusal>
+    ensures cases { λ r. ⌜ Cases r (λ len. Peeled-in (P·Peeled .support (now (pool .entry)) (now (list .entry))) (P·Peeled .items (now (pool .entry)) (now (list .entry))) least (now (living .entry)) (now (living .exit)) (now (taken .entry)) (now (taken .exit)) len × Wiped (P·Peeled .room (now (pool .entry)) (now (list .entry))) (now (marks .entry)) (now (marks .exit))) (λ _. (now (living .exit) ≡ now (living .entry)) × (now (marks .exit) ≡ now (marks .entry)) × (now (taken .exit) ≡ now (taken .entry))) ⌝ }
+    ensures refused { λ r. ⌜ Cases r (λ _. Fits (P·Peeled .items (now (pool .entry)) (now (list .entry))) (P·Peeled .room (now (pool .entry)) (now (list .entry))) (length (now (living .entry))) (length (now (marks .entry))) (length (now (taken .entry))) × P·Peeled .proper (now (pool .entry)) (now (list .entry))) (λ x. Peel-refused (P·Peeled .items (now (pool .entry)) (now (list .entry))) (P·Peeled .room (now (pool .entry)) (now (list .entry))) (P·Peeled .proper (now (pool .entry)) (now (list .entry))) (length (now (living .entry))) (length (now (marks .entry))) (length (now (taken .entry))) x) ⌝ }
+{
+    let n = pool.item_count(list);
+    let room = pool.mark_count(list);
+    if let Some(e) = refusal(n, room, living.len(), marks.len(), taken.len()) {
+        return Err(e);
+    }
+    let mut table = [0u16; 33792];
+    if !pool.index(list, &mut table) {
+        return Err(Refusal::Unordered);
+    }
+    let mut counts = [0u16; 16384];
+    let mut out = [0u16; 16384];
+    wipe(marks, room);
+    count_all(pool, list, &table, living, marks, &mut counts);
+    Ok(drain(pool, list, &table, least, living, marks, &mut counts, taken, &mut out))
+}
+
+// Peels at ever higher thresholds until nothing is left, and puts back what went last. Returns the threshold at
+// which that stayed.
+fn descend<T, P: Peeled<T>>(pool: &P, list: &[T], table: &[u16], living: &mut [u8], marks: &mut [u8], counts: &mut [u16], taken: &mut [u16], out: &mut [u16]) -> usize
+    requires ready { ⌜ P·Peeled .indexed (now pool) (now list) (now table) ⌝ }
+    requires tables { ⌜ Tables (P·Peeled .items (now pool) (now list)) (length (now living)) (length (now counts)) (length (now taken)) (length (now out)) ⌝ }
+    requires clear { ⌜ Clear (P·Peeled .room (now pool) (now list)) (now marks) ⌝ }
+    requires counted { ⌜ Counted (P·Peeled .support (now pool) (now list)) (P·Peeled .items (now pool) (now list)) (now living) (now counts) ⌝ }
+    ensures deepest { λ r. ⌜ Deepest-in (P·Peeled .support (now (pool .entry)) (now (list .entry))) (P·Peeled .items (now (pool .entry)) (now (list .entry))) (now (living .entry)) (now (living .exit)) r ⌝ }
+    ensures same { λ _. ⌜ Same (now (marks .entry)) (now (marks .exit)) ⌝ }
+{
+    let n = pool.item_count(list);
+    let mut next = 0;
+    let mut len = 0;
+    while let Some(low) = lowest(living, counts, n) {
+        next = low as usize + 1;
+        len = drain(pool, list, table, next, living, marks, counts, taken, out);
+    }
+    revive(taken, len, living);
+    next.saturating_sub(1)
+}
+
+/// The largest threshold at which an item stays, and in `living` what stays at it: 0 where no item lives.
+pub fn deepest<T, P: Peeled<T>>(pool: &P, list: &[T], living: &mut [u8], marks: &mut [u8]) -> Result<usize, Refusal>
+    ensures cases { λ r. ⌜ Cases r (λ k. Deepest-in (P·Peeled .support (now (pool .entry)) (now (list .entry))) (P·Peeled .items (now (pool .entry)) (now (list .entry))) (now (living .entry)) (now (living .exit)) k × Wiped (P·Peeled .room (now (pool .entry)) (now (list .entry))) (now (marks .entry)) (now (marks .exit))) (λ _. (now (living .exit) ≡ now (living .entry)) × (now (marks .exit) ≡ now (marks .entry))) ⌝ }
+    ensures refused { λ r. ⌜ Cases r (λ _. Fits (P·Peeled .items (now (pool .entry)) (now (list .entry))) (P·Peeled .room (now (pool .entry)) (now (list .entry))) (length (now (living .entry))) (length (now (marks .entry))) 16384 × P·Peeled .proper (now (pool .entry)) (now (list .entry))) (λ x. Peel-refused (P·Peeled .items (now (pool .entry)) (now (list .entry))) (P·Peeled .room (now (pool .entry)) (now (list .entry))) (P·Peeled .proper (now (pool .entry)) (now (list .entry))) (length (now (living .entry))) (length (now (marks .entry))) 16384 x) ⌝ }
+{
+    let n = pool.item_count(list);
+    let room = pool.mark_count(list);
+    if let Some(e) = refusal(n, room, living.len(), marks.len(), MOST) {
+        return Err(e);
+    }
+    let mut table = [0u16; 33792];
+    if !pool.index(list, &mut table) {
+        return Err(Refusal::Unordered);
+    }
+    let mut counts = [0u16; 16384];
+    let mut taken = [0u16; 16384];
+    let mut out = [0u16; 16384];
+    wipe(marks, room);
+    count_all(pool, list, &table, living, marks, &mut counts);
+    Ok(descend(pool, list, &table, living, marks, &mut counts, &mut taken, &mut out))
+}
