@@ -9,7 +9,7 @@ ghost use Rattle.finite.specs.Finite.{count, has};
 ghost use Rattle.supports.specs.Peel.{alive};
 ghost use Rattle.supports.proofs.Queues.{Queue, lesser, fallen};
 ghost use Rattle.supports.proofs.Descents.{Lowest-count};
-ghost use Rattle.peeling.specs.Peeling.{Wiped};
+ghost use Rattle.items.specs.Marks.{Wiped};
 
 // Clears the first n marks.
 pub fn wipe(marks: &mut [u8], n: usize)

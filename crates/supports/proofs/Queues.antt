@@ -174,3 +174,7 @@ pub fallen-fresh : (n k : ℕ) (out counts old taken : List ℕ) (start end lost
 unfolding fallen
 fallen-fresh n k out counts old taken start end lost j m fits l q e =
     let f = out-fresh n out lost j m fits l in let h = q .queue (getD out j 0) in grind (arith, tells)
+
+-- a queue from nothing has only what was put in
+pub queue-fresh : (n : ℕ) (p : ℕ → Bool) (old taken : List ℕ) (tail x : ℕ) → Queue n p old taken 0 tail → p x ≡ false → has (take tail taken) x ≡ false
+queue-fresh n p old taken tail x q e = let h = q .queue x in let z = has-none x in grind (arith, tells)

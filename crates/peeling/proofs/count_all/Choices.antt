@@ -2,7 +2,7 @@ use mathlib.Core.Path.{_≡_}
 use Prim.Native.Nat.{ℕ, _<_}
 use lib.ListN.{getD}
 use Rattle.supports.specs.Peel.{alive}
-use Rattle.peeling.specs.Peeling.{Same}
+use Rattle.items.specs.Marks.{Same}
 use Rattle.peeling.proofs.count_all.Given as given
 
 abbrev pub Inv-loop-i : given.InvT-loop-i

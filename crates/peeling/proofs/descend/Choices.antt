@@ -5,7 +5,7 @@ use lib.ListN.{length, take}
 use Rattle.finite.specs.Finite.{count, has}
 use Rattle.supports.specs.Peel.{alive}
 use Rattle.supports.proofs.Descents.{Descent}
-use Rattle.peeling.specs.Peeling.{Same}
+use Rattle.items.specs.Marks.{Same}
 use Rattle.peeling.proofs.descend.Given as given
 
 abbrev pub Inv-loop-low : given.InvT-loop-low

@@ -2,7 +2,7 @@ use mathlib.Core.Path.{_≡_}
 use Prim.Native.Nat.{_-_, _≤_}
 use lib.ListN.{length, drop}
 use Rattle.supports.proofs.Draining.{Draining}
-use Rattle.peeling.specs.Peeling.{Same}
+use Rattle.items.specs.Marks.{Same}
 use Rattle.peeling.proofs.drain.Given as given
 
 abbrev pub Inv-loop-head : given.InvT-loop-head

@@ -3,7 +3,7 @@ use native.Mathlib.Omega.{arith}
 use Prim.Native.Nat.{_<_}
 use lib.ListN.{length}
 use Rattle.supports.proofs.Tables.{filled-more}
-use Rattle.peeling.specs.Peeling.{Wiped}
+use Rattle.items.specs.Marks.{Wiped}
 use Rattle.peeling.proofs.tables.wipe.Needs as need
 
 pub loop-k-again : need.loop-k-again

@@ -1,4 +1,4 @@
-use Rattle.peeling.specs.Peeling.{Wiped}
+use Rattle.items.specs.Marks.{Wiped}
 use Rattle.peeling.proofs.tables.wipe.Given as given
 
 abbrev pub Inv-loop-k : given.InvT-loop-k
