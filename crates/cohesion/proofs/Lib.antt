@@ -1,1 +1,5 @@
 pub mod Near
+pub mod Places
+pub mod Links
+pub mod Chains
+pub mod Raises
