@@ -3,3 +3,5 @@ pub mod Places
 pub mod Links
 pub mod Chains
 pub mod Raises
+pub mod Rounds
+pub mod Bridge

@@ -13,7 +13,7 @@ use Rattle.std.proofs.shelf.Tests.{cases-bool, cases-eq, cases-lt, both-ways, a
 use Rattle.std.proofs.shelf.Ways.{tells}
 use Rattle.finite.specs.Finite.{count, any, has}
 use Rattle.finite.specs.Supports.{Within, Falls}
-use Rattle.finite.proofs.Counts.{any-true, count-mono, count-same, count-less}
+use Rattle.finite.proofs.Counts.{any-true, count-le, count-mono, count-same, count-less}
 use Rattle.finite.proofs.Pigeons.{any-from, any-empty}
 use Rattle.graph.specs.declared.edge.Edge.{Edge}
 use Rattle.graph.specs.Edges.{ends, Rising}
@@ -244,6 +244,26 @@ module _ (n : ℕ) (list : List Edge) (r : Rising n None list) (s : ℕ → Bool
       kept-at : (c : ℕ) → ((w : ℕ) → ends (edge-at list x) (edge-at list c .a) w ≡ false) → ((w : ℕ) → ends (edge-at list x) (edge-at list c .b) w ≡ false) → common n list s c ≡ common n list (but s x) c + 0
       kept-at c f g = common-kept c f g ∙ sym (add-zero (common n list (but s x) c))
 
+  -- no edge leans on both ends
+  pub leans-once : (c : ℕ) → c < length list → leans (edge-at list x .a) c ≡ true → leans (edge-at list x .b) c ≡ true → ⊥
+  unfolding xa xb
+  leans-once c lc p q =
+      let lt = smaller n list r c lc in
+      let l2 = smaller n list r x lx in
+      let ta = touching xa p in
+      let tb = touching xb q in
+      elim (touch-cases (edge-at list c) xa ta) [
+        inl ea ↦ elim (touch-cases (edge-at list c) xb tb) [
+            inl eb ↦ omega arith
+          | inr eb ↦ both-ways (linked list s xb xb) (linked-self xb) (ap (linked list s xb) (sym (far-a (edge-at list c) xa ea ∙ eb)) ∙ farther xa p) ]
+      | inr ea ↦ elim (touch-cases (edge-at list c) xb tb) [ inl eb ↦ omega arith | inr eb ↦ omega arith ] ]
+    where
+      touching : (u : ℕ) → leans u c ≡ true → touches (edge-at list c) u ≡ true
+      touching u y = and-parts (touches (edge-at list c) u) (linked list s xa (far (edge-at list c) u) && linked list s xb (far (edge-at list c) u)) (and-parts (s c) (touches (edge-at list c) u && (linked list s xa (far (edge-at list c) u) && linked list s xb (far (edge-at list c) u))) y .1) .0
+
+      farther : (u : ℕ) → leans u c ≡ true → linked list s xb (far (edge-at list c) u) ≡ true
+      farther u y = and-parts (linked list s xa (far (edge-at list c) u)) (linked list s xb (far (edge-at list c) u)) (and-parts (touches (edge-at list c) u) (linked list s xa (far (edge-at list c) u) && linked list s xb (far (edge-at list c) u)) (and-parts (s c) (touches (edge-at list c) u && (linked list s xa (far (edge-at list c) u) && linked list s xb (far (edge-at list c) u))) y .1) .1) .1
+
   pub edge-losers : (out : List ℕ) → count (has out) (length list) ≡ length out → ((c : ℕ) → s c ≡ true → c < length list) → ((c : ℕ) → has out c ≡ (leans (edge-at list x .a) c || leans (edge-at list x .b) c)) → Losers (common n list) (length list) s x out
   unfolding xa xb
   edge-losers out m inside h =
@@ -267,3 +287,7 @@ module _ (n : ℕ) (list : List Edge) (r : Rising n None list) (s : ℕ → Bool
           elim (or-cases (leans xa x) (leans xb x) y) [
             inl z ↦ both-ways (linked list s xb xb) (linked-self xb) (far-lean xa xb z (far-a (edge-at list x) xa refl) .1)
           | inr z ↦ both-ways (linked list s xa xa) (linked-self xa) (far-lean xb xa z (far-b (edge-at list x) xb (smaller n list r x lx) refl) .0) ]
+
+pub common-le : (n : ℕ) (list : List Edge) (s : ℕ → Bool) (i : ℕ) → common n list s i ≤ n
+unfolding common shared
+common-le n list s i = count-le (λ w. linked list s (edge-at list i .a) w && linked list s (edge-at list i .b) w) n

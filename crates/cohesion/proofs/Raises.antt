@@ -6,7 +6,7 @@ use mathlib.Core.Logic.{_⊎_, inl, inr}
 use Prim.Native.Nat.{ℕ, zero, suc, _+_, _-_, _<_, _≤_}
 use native.Mathlib.Omega.{arith}
 use lib.Dec.{eqb, ltb}
-use lib.ListN.{length, getD, set}
+use lib.ListN.{length, getD, set, take}
 use lib.Seq.{getD-set-same, getD-set-other}
 use Rattle.std.specs.declared.option.Option.the-variants.{None}
 use Rattle.std.proofs.shelf.Tests.{cases-bool, cases-eq, cases-lt, both-ways, and-parts, and-from, and-left, and-right, or-cases, or-left, or-right, lt-ltb, le-ltb, ltb-true, ltb-false, eq-eqb, ne-eqb, eqb-true, cond-true, cond-false}
@@ -16,6 +16,7 @@ use Rattle.finite.specs.Finite.{count, any, has}
 use Rattle.finite.proofs.Counts.{count-empty, count-less, count-same}
 use Rattle.graph.specs.declared.edge.Edge.{Edge}
 use Rattle.graph.specs.Edges.{ends, Rising}
+use Rattle.supports.proofs.Queues.{Queue}
 use Rattle.cohesion.specs.Common.{edge-at, linked, shared, common, touches, far, last-at, Listing, Chained}
 use Rattle.cohesion.proofs.Places.{smaller, below}
 use Rattle.cohesion.proofs.Chains.{Walk, over, met, met-all, last-le, last-gap, last-here, last-more-yes, last-more-no, last-none, walk-here, walk-within}
@@ -217,3 +218,41 @@ chaining-all n list table j small r few e c =
       firsts = λ i h. c .firsts i (omega arith);
       seconds = λ i h. c .seconds i (omega arith);
     }
+
+-- where a walk stands
+module _ (n : ℕ) (list : List Edge) (table : List ℕ) (u cur : ℕ) (ch : Chained n list table) (wk : Walk list u cur) (pos : 0 < cur) where
+  pub stand-within : cur - 1 < length list
+  stand-within = omega (arith, walk-within list u cur wk)
+
+  pub stand-smaller : edge-at list (cur - 1) .a < edge-at list (cur - 1) .b
+  stand-smaller = smaller n list (ch .listing .rising) (cur - 1) stand-within
+
+  pub stand-far : (w : ℕ) → w ≡ far (edge-at list (cur - 1)) u → w < n
+  stand-far w e =
+      let a = stand-smaller in
+      let b = below n list (ch .listing .rising) (cur - 1) stand-within in
+      elim (cases-bool (eqb (edge-at list (cur - 1) .a) u)) [
+        inl y ↦ omega (arith, e, cond-true (eqb (edge-at list (cur - 1) .a) u) (edge-at list (cur - 1) .b) (edge-at list (cur - 1) .a) y)
+      | inr y ↦ omega (arith, e, cond-false (eqb (edge-at list (cur - 1) .a) u) (edge-at list (cur - 1) .b) (edge-at list (cur - 1) .a) y) ]
+
+  pub stand-next : (r : ℕ) → r ≡ cond (eqb (edge-at list (cur - 1) .a) u) (getD table (1024 + (cur - 1)) 0) (getD table (17408 + (cur - 1)) 0) → r ≡ last-at list u (cur - 1)
+  stand-next r e =
+      let one = getD table (1024 + (cur - 1)) 0 in
+      let two = getD table (17408 + (cur - 1)) 0 in
+      elim (cases-bool (eqb (edge-at list (cur - 1) .a) u)) [
+        inl y ↦ e ∙ cond-true (eqb (edge-at list (cur - 1) .a) u) one two y ∙ ch .firsts (cur - 1) stand-within ∙ ap (λ v. last-at list v (cur - 1)) (eqb-true (edge-at list (cur - 1) .a) u y)
+      | inr y ↦ e ∙ cond-false (eqb (edge-at list (cur - 1) .a) u) one two y ∙ ch .seconds (cur - 1) stand-within ∙ ap (λ v. last-at list v (cur - 1)) (elim (or-cases (eqb (edge-at list (cur - 1) .a) u) (eqb (edge-at list (cur - 1) .b) u) (walk-here list u cur wk pos)) [
+          | inl z ↦ absurd (both-ways (eqb (edge-at list (cur - 1) .a) u) y z)
+          | inr z ↦ eqb-true (edge-at list (cur - 1) .b) u z
+        ]) ]
+
+  pub stand-less : (r : ℕ) → r ≡ cond (eqb (edge-at list (cur - 1) .a) u) (getD table (1024 + (cur - 1)) 0) (getD table (17408 + (cur - 1)) 0) → r < cur
+  stand-less r e = omega (arith, stand-next r e, last-le list u (cur - 1))
+
+-- the edge where the walk stands is not yet gathered
+pub picked-new : (m : ℕ) (list : List Edge) (s : ℕ → Bool) (marks : List ℕ) (v u cur x : ℕ) (old out : List ℕ) (start len : ℕ) → Walk list u cur → 0 < cur → x ≡ far (edge-at list (cur - 1)) u → s (cur - 1) ≡ true → getD marks x 0 ≡ v → Queue m (picked list s marks v u cur) old out start len → ((c : ℕ) → picked list s marks v u 0 c ≡ true → has (take start old) c ≡ false) → has (take len out) (cur - 1) ≡ false
+picked-new m list s marks v u cur x old out start len wk pos ex y mk q fr =
+    let a = picked-out list s marks v u cur pos in
+    let z = fr (cur - 1) (picked-all list s marks v u (cur - 1) ∙ and-from (s (cur - 1)) (touches (edge-at list (cur - 1)) u && eqb (getD marks (far (edge-at list (cur - 1)) u) 0) v) y (and-from (touches (edge-at list (cur - 1)) u) (eqb (getD marks (far (edge-at list (cur - 1)) u) 0) v) (walk-here list u cur wk pos) (eq-eqb (getD marks (far (edge-at list (cur - 1)) u) 0) v (ap (λ i. getD marks i 0) (sym ex) ∙ mk)))) in
+    let h = q .queue (cur - 1) in
+    h ∙ ap (λ (b : Bool). b || picked list s marks v u cur (cur - 1)) z ∙ a

@@ -12,7 +12,7 @@ pub record Tight (g : Graph) (t : ℕ) (e : ℕ → ℕ → Bool) : Type 0 where
   pub each : (a b : ℕ) → e a b ≡ true → t ≤ count (λ w. e a w && e b w) (g .size)
 
 -- e is the t-community: the largest such set
-pub record Is-community (g : Graph) (t : ℕ) (e : ℕ → ℕ → Bool) : Type 0 where
+pub record Community-of (g : Graph) (t : ℕ) (e : ℕ → ℕ → Bool) : Type 0 where
   pub tight : Tight g t e
   pub covers : (d : ℕ → ℕ → Bool) → Tight g t d → (a b : ℕ) → d a b ≡ true → e a b ≡ true
 
@@ -25,6 +25,6 @@ pub record Has-edge (e : ℕ → ℕ → Bool) : Type 0 where
 -- k is the largest t whose t-community has an edge; a set that is tight at t lies in the t-community
 pub record Is-community-number (g : Graph) (k : ℕ) : Type 0 where
   pub set : ℕ → ℕ → Bool
-  pub community : Is-community g k set
+  pub community : Community-of g k set
   pub has : Has-edge set
   pub most : (t : ℕ) (e : ℕ → ℕ → Bool) → Tight g t e → Has-edge e → t ≤ k
