@@ -3,7 +3,7 @@ use mathlib.Core.Path.{_≡_, refl, sym, _∙_, ap, subst}
 use mathlib.Core.List.{List, []}
 use mathlib.Core.Bool.{Bool, true, false, _&&_, _||_, not, cond}
 use mathlib.Core.Logic.{_⊎_, inl, inr}
-use Prim.Native.Nat.{ℕ, zero, suc, _+_, _<_, _≤_, min}
+use Prim.Native.Nat.{ℕ, zero, suc, _+_, _-_, _<_, _≤_, min}
 use native.Mathlib.Omega.{arith}
 use lib.Dec.{eqb, ltb}
 use lib.ListN.{length, getD, take, drop}
@@ -25,7 +25,7 @@ use Rattle.supports.proofs.Peels.{alive-below, alive-byte, alive-yes, largest-o
 use Rattle.cohesion.specs.Community.{Community-of, Has-edge, Is-community-number}
 use Rattle.cohesion.specs.Common.{edge-at, linked, common, Listing}
 use Rattle.cohesion.proofs.Places.{ends-own, joins-place, place-joins, place-one}
-use Rattle.cohesion.proofs.Links.{linked-true, linked-from}
+use Rattle.cohesion.proofs.Links.{linked-true, linked-from, common-le}
 use Rattle.cohesion.proofs.Bridge.{everywhere, largest-community, deepest-number, number-one}
 use Rattle.bounds.specs.Cap.{edge-count, Smaller-bound, Is-cap, Edges-in, Capped-in}
 
@@ -126,3 +126,17 @@ module _ (g : Graph) (lw : Lawful g) (edges edges′ : List Edge) (E : Edges-in 
             | inr y ↦ elim (cases-bool (e a b)) [
                 inr z ↦ y ∙ sym z
               | inl z ↦ absurd (both-ways (linked (edge-list g) (alive (edge-count g) living′) a b) y (comm .covers e (h′ .tight) a b z)) ] ]
+
+-- the list that was peeled is the list of edges
+pub written : (g : Graph) (edges edges′ : List Edge) (m : ℕ) → m ≡ edge-count g → Edges-in g edges edges′ → take (m - 0) edges′ ≡ edge-list g
+written g edges edges′ m e E = let z : m - 0 ≡ edge-count g = omega arith in ap (λ v. take v edges′) z ∙ E .edges
+
+pub deepest-of : (g : Graph) (list : List Edge) (n : ℕ) (ones living′ : List ℕ) (k : ℕ) → list ≡ edge-list g → n ≡ g .size → Deepest-in (common n list) (length list) ones living′ k → Deepest-in (common (g .size) (edge-list g)) (edge-count g) ones living′ k
+deepest-of g list n ones living′ k e en d =
+    subst (λ v. Deepest-in (common v (edge-list g)) (edge-count g) ones living′ k) en (subst (λ (v : List Edge). Deepest-in (common n v) (length v) ones living′ k) e d)
+
+pub number-le : (g : Graph) (list : List Edge) (n : ℕ) (living ones living′ : List ℕ) (m k : ℕ) → m ≡ length list → 0 < m → ((c : ℕ) → getD ones c 0 ≡ cond (ltb c m) 1 (getD living c 0)) → Deepest-in (common n list) (length list) ones living′ k → k ≤ n
+number-le g list n living ones living′ m k e pos full d =
+    let first = alive-yes (length list) ones 0 (omega arith) (full 0 ∙ cond-true (ltb 0 m) 1 (getD living 0 0) (lt-ltb 0 m pos)) in
+    let w = d .deepest .some 0 first in
+    omega (arith, d .deepest .level .supported .each (w .0) (w .1), common-le n list (alive (length list) living′) (w .0))
