@@ -44,10 +44,11 @@ vertex-pos g a y = count-pos (held g) (g .size) a (held-below g a y) y
 pub none-listed : (g : Graph) → Lawful g → vertices g ≡ 0 → edge-count g ≡ 0
 none-listed g lw v =
     elim (cases-lt 0 (edge-count g)) [
-      inr l ↦ omega arith
-    | inl l ↦ let e = edge-at (edge-list g) 0 in
-        let j = place-joins (edge-list g) (e .a) (e .b) 0 l (ends-own e) in
-        absurd (omega (arith, vertex-pos g (e .a) (clash-left g (e .a) (e .b) (sym (edge-list-joins g lw (e .a) (e .b)) ∙ j)))) ]
+      | inr l ↦ omega arith
+      | inl l ↦ let e = edge-at (edge-list g) 0 in
+          let j = place-joins (edge-list g) (e .a) (e .b) 0 l (ends-own e) in
+          absurd (omega (arith, vertex-pos g (e .a) (clash-left g (e .a) (e .b) (sym (edge-list-joins g lw (e .a) (e .b)) ∙ j))))
+    ]
 
 pub cap-empty : (g : Graph) → Lawful g → vertices g ≡ 0 → Is-cap g 0
 cap-empty g lw v = record { empty = λ e. refl; plain = λ l e. absurd (omega arith); edged = λ l. absurd (omega (arith, none-listed g lw v)) }
@@ -58,12 +59,14 @@ cap-plain g v e = record { empty = λ z. absurd (omega arith); plain = λ l z. r
 module _ (g : Graph) (lw : Lawful g) (edges edges′ : List Edge) (E : Edges-in g edges edges′) where
   pub capped-none : (living marks marks′ : List ℕ) (n r : ℕ) → n ≡ g .size → edge-count g ≡ 0 → Is-cap g r → Cleared n marks marks′ → Capped-in g edges edges′ living living marks marks′ r
   capped-none living marks marks′ n r en none is wiped =
-      record { cap = is
-      ; listed = E
-      ; community = λ k e q h c l. absurd (omega arith)
-      ; living-rest = λ c l. refl
-      ; clear = λ k l. wiped k ∙ cond-true (ltb k n) 0 (getD marks k 0) (lt-ltb k n (omega arith))
-      ; marks-rest = λ k l. wiped k ∙ cond-false (ltb k n) 0 (getD marks k 0) (le-ltb k n (omega arith)) }
+      record {
+        cap = is;
+        listed = E;
+        community = λ k e q h c l. absurd (omega arith);
+        living-rest = λ c l. refl;
+        clear = λ k l. wiped k ∙ cond-true (ltb k n) 0 (getD marks k 0) (lt-ltb k n (omega arith));
+        marks-rest = λ k l. wiped k ∙ cond-false (ltb k n) 0 (getD marks k 0) (le-ltb k n (omega arith));
+      }
 
   -- the list that was written
   pub listing : (list : List Edge) (n : ℕ) → list ≡ edge-list g → n ≡ g .size → Listing n list
@@ -78,9 +81,11 @@ module _ (g : Graph) (lw : Lawful g) (edges edges′ : List Edge) (E : Edges-in 
     deep : Deepest (common (g .size) (edge-list g)) (everywhere (edge-count g)) (alive (edge-count g) living′) k
     deep =
         let d = D .deepest in
-        record { level = largest-of-same (common (g .size) (edge-list g)) k (alive (edge-count g) ones) (everywhere (edge-count g)) (alive (edge-count g) living′) all-ones (d .level)
-        ; most = λ t u h c y. d .most t u (record { within = λ b z. all-ones b ∙ h .within b z; each = h .each }) c y
-        ; some = λ c y. d .some c (all-ones c ∙ y) }
+        record {
+          level = largest-of-same (common (g .size) (edge-list g)) k (alive (edge-count g) ones) (everywhere (edge-count g)) (alive (edge-count g) living′) all-ones (d .level);
+          most = λ t u h c y. d .most t u (record { within = λ b z. all-ones b ∙ h .within b z; each = h .each }) c y;
+          some = λ c y. d .some c (all-ones c ∙ y);
+        }
 
     pub number-is : Is-community-number g k
     number-is = deepest-number g (edge-list g) (edge-list-joins g lw) k (alive (edge-count g) living′) pos deep
@@ -91,11 +96,13 @@ module _ (g : Graph) (lw : Lawful g) (edges edges′ : List Edge) (E : Edges-in 
         let e = edge-at (edge-list g) c in
         let s = alive (edge-count g) living′ in
         elim (cases-bool (s c)) [
-          inl y ↦ linked-from (edge-list g) s (e .a) (e .b) c l y (ends-own e) ∙ sym y
-        | inr y ↦ elim (cases-bool (linked (edge-list g) s (e .a) (e .b))) [
-            inr z ↦ z ∙ sym y
-          | inl z ↦ absurd (let w = linked-true (edge-list g) s (e .a) (e .b) z in
-              both-ways (s c) y (ap s (sym (place-one (g .size) (edge-list g) (edge-list-rising g lw) (w .place) c (e .a) (e .b) (w .within) l (w .joined) (ends-own e))) ∙ w .member)) ] ]
+          | inl y ↦ linked-from (edge-list g) s (e .a) (e .b) c l y (ends-own e) ∙ sym y
+          | inr y ↦ elim (cases-bool (linked (edge-list g) s (e .a) (e .b))) [
+            | inr z ↦ z ∙ sym y
+            | inl z ↦ absurd (let w = linked-true (edge-list g) s (e .a) (e .b) z in
+                both-ways (s c) y (ap s (sym (place-one (g .size) (edge-list g) (edge-list-rising g lw) (w .place) c (e .a) (e .b) (w .within) l (w .joined) (ends-own e))) ∙ w .member))
+          ]
+        ]
 
     byte : (c : ℕ) → c < edge-count g → getD living′ c 0 ≡ cond (alive (edge-count g) living′ c) 1 0
     unfolding alive
@@ -105,27 +112,32 @@ module _ (g : Graph) (lw : Lawful g) (edges edges′ : List Edge) (E : Edges-in 
         let a = lt-ltb c (edge-count g) l in
         let one : getD ones c 0 ≡ 1 = h ∙ cond-true (ltb c (edge-count g)) 1 (getD living c 0) a in
         elim (cases-lt 0 (getD living′ c 0)) [
-          inl p ↦ let q : getD living′ c 0 ≡ 1 = omega arith in grind (arith, tells)
-        | inr p ↦ let q : getD living′ c 0 ≡ 0 = omega arith in grind (arith, tells) ]
+          | inl p ↦ let q : getD living′ c 0 ≡ 1 = omega arith in grind (arith, tells)
+          | inr p ↦ let q : getD living′ c 0 ≡ 0 = omega arith in grind (arith, tells)
+        ]
 
     pub capped-edged : (marks mid marks′ : List ℕ) (n d r : ℕ) → n ≡ g .size → Is-degeneracy g d → Cleared n marks mid → Cleared n mid marks′ → r ≡ min (d + 1) (k + 2) → Capped-in g edges edges′ living living′ marks marks′ r
     capped-edged marks mid marks′ n d r en deg wiped again least =
         let comm = largest-community g (edge-list g) (edge-list-joins g lw) k (alive (edge-count g) living′) (deep .level) in
-        record { cap = record { empty = λ v. absurd (omega (arith, none-listed g lw v)); plain = λ l e. absurd (omega arith); edged = λ l. record { degeneracy = d; number = k; is-degeneracy = deg; is-number = number-is; smaller = least } }
-        ; listed = E
-        ; community = λ j e q h c l. byte c l ∙ ap (λ b. cond b 1 0) (sym (own-link c l) ∙ same j e (number-one g k j number-is q) h comm (edge-at (edge-list g) c .a) (edge-at (edge-list g) c .b))
-        ; living-rest = λ c l. D .rest c l ∙ full c ∙ cond-false (ltb c (edge-count g)) 1 (getD living c 0) (le-ltb c (edge-count g) l)
-        ; clear = λ i l. again i ∙ cond-true (ltb i n) 0 (getD mid i 0) (lt-ltb i n (omega arith))
-        ; marks-rest = λ i l. again i ∙ cond-false (ltb i n) 0 (getD mid i 0) (le-ltb i n (omega arith)) ∙ wiped i ∙ cond-false (ltb i n) 0 (getD marks i 0) (le-ltb i n (omega arith)) }
+        record {
+          cap = record { empty = λ v. absurd (omega (arith, none-listed g lw v)); plain = λ l e. absurd (omega arith); edged = λ l. record { degeneracy = d; number = k; is-degeneracy = deg; is-number = number-is; smaller = least } };
+          listed = E;
+          community = λ j e q h c l. byte c l ∙ ap (λ b. cond b 1 0) (sym (own-link c l) ∙ same j e (number-one g k j number-is q) h comm (edge-at (edge-list g) c .a) (edge-at (edge-list g) c .b));
+          living-rest = λ c l. D .rest c l ∙ full c ∙ cond-false (ltb c (edge-count g)) 1 (getD living c 0) (le-ltb c (edge-count g) l);
+          clear = λ i l. again i ∙ cond-true (ltb i n) 0 (getD mid i 0) (lt-ltb i n (omega arith));
+          marks-rest = λ i l. again i ∙ cond-false (ltb i n) 0 (getD mid i 0) (le-ltb i n (omega arith)) ∙ wiped i ∙ cond-false (ltb i n) 0 (getD marks i 0) (le-ltb i n (omega arith));
+        }
       where
         same : (j : ℕ) (e : ℕ → ℕ → Bool) → k ≡ j → Community-of g j e → Community-of g k (linked (edge-list g) (alive (edge-count g) living′)) → (a b : ℕ) → linked (edge-list g) (alive (edge-count g) living′) a b ≡ e a b
         same j e i h comm a b =
             let h′ : Community-of g k e = subst (λ v. Community-of g v e) (sym i) h in
             elim (cases-bool (linked (edge-list g) (alive (edge-count g) living′) a b)) [
-              inl y ↦ y ∙ sym (h′ .covers (linked (edge-list g) (alive (edge-count g) living′)) (comm .tight) a b y)
-            | inr y ↦ elim (cases-bool (e a b)) [
-                inr z ↦ y ∙ sym z
-              | inl z ↦ absurd (both-ways (linked (edge-list g) (alive (edge-count g) living′) a b) y (comm .covers e (h′ .tight) a b z)) ] ]
+              | inl y ↦ y ∙ sym (h′ .covers (linked (edge-list g) (alive (edge-count g) living′)) (comm .tight) a b y)
+              | inr y ↦ elim (cases-bool (e a b)) [
+                | inr z ↦ y ∙ sym z
+                | inl z ↦ absurd (both-ways (linked (edge-list g) (alive (edge-count g) living′) a b) y (comm .covers e (h′ .tight) a b z))
+              ]
+            ]
 
 -- the list that was peeled is the list of edges
 pub written : (g : Graph) (edges edges′ : List Edge) (m : ℕ) → m ≡ edge-count g → Edges-in g edges edges′ → take (m - 0) edges′ ≡ edge-list g

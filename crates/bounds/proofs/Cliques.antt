@@ -30,8 +30,9 @@ unfolding count
 member-of s zero l = absurd (omega arith)
 member-of s (suc n) l =
     elim (cases-bool (s n)) [
-      inl y ↦ (n, omega arith, y)
-    | inr y ↦ let r = member-of s n (grind (arith, tells)) in (r .0, omega (arith, r .1), r .2) ]
+      | inl y ↦ (n, omega arith, y)
+      | inr y ↦ let r = member-of s n (grind (arith, tells)) in (r .0, omega (arith, r .1), r .2)
+    ]
 
 -- an edge is listed
 edge-pos : (g : Graph) → Lawful g → (a b : ℕ) → clash g a b ≡ true → 0 < edge-count g
@@ -51,8 +52,9 @@ module _ (g : Graph) (lw : Lawful g) (s : ℕ → Bool) (q : Clique g s) where
   unfolding inside
   others c y =
       count-less s (λ b. s b && clash g c b) c (g .size) (held-below g c (q .members c y)) y (and-right (s c) (clash g c c) (lw .never c)) (λ b ne. elim (cases-bool (s b)) [
-        inl z ↦ z ∙ sym (and-from (s b) (clash g c b) z (q .joins c b y z (λ e. ne (sym e))))
-      | inr z ↦ z ∙ sym (and-left (s b) (clash g c b) z) ])
+        | inl z ↦ z ∙ sym (and-from (s b) (clash g c b) z (q .joins c b y z (λ e. ne (sym e))))
+        | inr z ↦ z ∙ sym (and-left (s b) (clash g c b) z)
+      ])
 
   -- the edges within the clique
   within : ℕ → ℕ → Bool
@@ -89,9 +91,11 @@ module _ (g : Graph) (lw : Lawful g) (s : ℕ → Bool) (q : Clique g s) where
 
   tight : Tight g (count s (g .size) - 2) within
   tight =
-      record { within = λ a b y. let p = parts a b y in q .joins a b (p .0) (p .1) (p .2)
-      ; both = swap
-      ; each = λ a b y. omega (arith, shared a b y) }
+      record {
+        within = λ a b y. let p = parts a b y in q .joins a b (p .0) (p .1) (p .2);
+        both = swap;
+        each = λ a b y. omega (arith, shared a b y);
+      }
 
   -- two members
   two : 1 < count s (g .size) → Has-edge within
@@ -105,47 +109,55 @@ module _ (g : Graph) (lw : Lawful g) (s : ℕ → Bool) (q : Clique g s) where
   by-degeneracy : (d : ℕ) → Is-degeneracy g d → count s (g .size) ≤ d + 1
   by-degeneracy d h =
       elim (cases-lt 0 (count s (g .size))) [
-        inr l ↦ omega arith
-      | inl l ↦ let a = member-of s (g .size) l in
-          let v = h .sparse s (q .members) (a .0) (a .2) in
-          omega (arith, others (v .0) (v .1), v .2) ]
+        | inr l ↦ omega arith
+        | inl l ↦ let a = member-of s (g .size) l in
+            let v = h .sparse s (q .members) (a .0) (a .2) in
+            omega (arith, others (v .0) (v .1), v .2)
+      ]
 
   by-number : (k : ℕ) → Is-community-number g k → count s (g .size) ≤ k + 2
   by-number k h =
       elim (cases-lt 1 (count s (g .size))) [
-        inr l ↦ omega arith
-      | inl l ↦ omega (arith, h .most (count s (g .size) - 2) within tight (two l)) ]
+        | inr l ↦ omega arith
+        | inl l ↦ omega (arith, h .most (count s (g .size) - 2) within tight (two l))
+      ]
 
   pub bounded : (r : ℕ) → Is-cap g r → count s (g .size) ≤ r
   bounded r h =
       elim (cases-lt 0 (count s (g .size))) [
-        inr l ↦ omega arith
-      | inl l ↦ let a = member-of s (g .size) l in
-          let v = vertex-pos g (a .0) (q .members (a .0) (a .2)) in
-          elim (cases-lt 0 (edge-count g)) [
-            inl e ↦ let b = h .edged e in omega (arith, b .smaller, by-degeneracy (b .degeneracy) (b .is-degeneracy), by-number (b .number) (b .is-number))
-          | inr e ↦ elim (cases-lt 1 (count s (g .size))) [
-              inr m ↦ omega (arith, h .plain v (omega arith))
-            | inl m ↦ let t = two m in absurd (omega (arith, edge-pos g lw (t .left) (t .right) (tight .within (t .left) (t .right) (t .edge)))) ] ] ]
+        | inr l ↦ omega arith
+        | inl l ↦ let a = member-of s (g .size) l in
+            let v = vertex-pos g (a .0) (q .members (a .0) (a .2)) in
+            elim (cases-lt 0 (edge-count g)) [
+              | inl e ↦ let b = h .edged e in omega (arith, b .smaller, by-degeneracy (b .degeneracy) (b .is-degeneracy), by-number (b .number) (b .is-number))
+              | inr e ↦ elim (cases-lt 1 (count s (g .size))) [
+                | inr m ↦ omega (arith, h .plain v (omega arith))
+                | inl m ↦ let t = two m in absurd (omega (arith, edge-pos g lw (t .left) (t .right) (tight .within (t .left) (t .right) (t .edge))))
+              ]
+            ]
+      ]
 
 pub cap-bounds : Cap-bounds
 cap-bounds g r k K lw is q = omega (arith, bounded g lw K (q .clique) r is, q .many)
 
 pub clique-community : Clique-community
-clique-community g K k lw q l =
-    ( within g lw K (q .clique)
-    , subst (λ v. Tight g (v - 2) (within g lw K (q .clique))) (q .many) (tight g lw K (q .clique))
-    , two g lw K (q .clique) (omega (arith, q .many))
-    , made g lw K (q .clique) )
+clique-community g K k lw q l = (
+  within g lw K (q .clique),
+  subst (λ v. Tight g (v - 2) (within g lw K (q .clique))) (q .many) (tight g lw K (q .clique)),
+  two g lw K (q .clique) (omega (arith, q .many)),
+  made g lw K (q .clique),
+)
 
 -- the cases of the bound exclude each other
 pub one-cap : One-cap
 one-cap g q r a b =
     elim (cases-lt 0 (edge-count g)) [
-      inl l ↦ let x = a .edged l in let y = b .edged l in
-        let d = degeneracy-one g (x .degeneracy) (y .degeneracy) (x .is-degeneracy) (y .is-degeneracy) in
-        let n = number-one g (x .number) (y .number) (x .is-number) (y .is-number) in
-        x .smaller ∙ ap (λ v. min (v + 1) (x .number + 2)) d ∙ ap (λ v. min (y .degeneracy + 1) (v + 2)) n ∙ sym (y .smaller)
-    | inr l ↦ elim (cases-lt 0 (vertices g)) [
-        inl v ↦ a .plain v (omega arith) ∙ sym (b .plain v (omega arith))
-      | inr v ↦ a .empty (omega arith) ∙ sym (b .empty (omega arith)) ] ]
+      | inl l ↦ let x = a .edged l in let y = b .edged l in
+          let d = degeneracy-one g (x .degeneracy) (y .degeneracy) (x .is-degeneracy) (y .is-degeneracy) in
+          let n = number-one g (x .number) (y .number) (x .is-number) (y .is-number) in
+          x .smaller ∙ ap (λ v. min (v + 1) (x .number + 2)) d ∙ ap (λ v. min (y .degeneracy + 1) (v + 2)) n ∙ sym (y .smaller)
+      | inr l ↦ elim (cases-lt 0 (vertices g)) [
+        | inl v ↦ a .plain v (omega arith) ∙ sym (b .plain v (omega arith))
+        | inr v ↦ a .empty (omega arith) ∙ sym (b .empty (omega arith))
+      ]
+    ]

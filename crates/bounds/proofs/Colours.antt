@@ -29,9 +29,10 @@ one-more g lw u x k y few c =
     let f = free-colour g v k (c .0) x (omega (arith, inside-mono g v u x (λ b z. but-other u x b z .0))) in
     let col = painted (c .0) x (f .0) in
     let at = painted-at (c .0) x (f .0) in
-    let off : (b : ℕ) → v b ≡ true → c .0 b ≡ col b = λ b z. sym (painted-off (c .0) x (f .0) b (but-other u x b z .1)) in
-    ( col
-    , coloured-add g u v k col x lw (λ b ne z. but-same u x b ne ∙ z) (omega (arith, at, f .1)) (omega (arith, at, f .2)) (λ b z e q. f .3 b z (c .1 .low b z) e (off b z ∙ q ∙ at)) (coloured-same g v k (c .0) col off (c .1)) )
+    let off : (b : ℕ) → v b ≡ true → c .0 b ≡ col b = λ b z. sym (painted-off (c .0) x (f .0) b (but-other u x b z .1)) in (
+      col,
+      coloured-add g u v k col x lw (λ b ne z. but-same u x b ne ∙ z) (omega (arith, at, f .1)) (omega (arith, at, f .2)) (λ b z e q. f .3 b z (c .1 .low b z) e (off b z ∙ q ∙ at)) (coloured-same g v k (c .0) col off (c .1)),
+    )
 
 module _ (g : Graph) (lw : Lawful g) (t k : ℕ) (s : ℕ → Bool) (is : Core-of g t s) (l : t ≤ k) (c : Colourable-in g s k) where
   -- whether a vertex of the set has t neighbours in it, or is not in it
@@ -48,26 +49,30 @@ module _ (g : Graph) (lw : Lawful g) (t k : ℕ) (s : ℕ → Bool) (is : Core-o
   unfolding strong
   strong-part u a e y =
       elim (or-cases (not (u a)) (not (ltb (inside g u a) t)) e) [
-        inl h ↦ absurd (both-ways (u a) (not-true (u a) h) y)
-      | inr h ↦ ltb-false (inside g u a) t (not-true (ltb (inside g u a) t) h) ]
+        | inl h ↦ absurd (both-ways (u a) (not-true (u a) h) y)
+        | inr h ↦ ltb-false (inside g u a) t (not-true (ltb (inside g u a) t) h)
+      ]
 
   -- each set between the core and the graph, by how many vertices it has
   between : (n : ℕ) (u : ℕ → Bool) → count u (g .size) ≤ n → Within s u → Within u (held g) → Colourable-in g u k
   between zero u h a b =
       elim (some-fails (strong u) (g .size)) [
-        inl r ↦ absurd (omega (arith, count-pos u (g .size) (r .0) (r .1) (weak-parts u (r .0) (r .2) .0)))
-      | inr f ↦ colours-fewer g s u k (is .covers u (record { within = b; each = λ v y. strong-part u v (f v (held-below g v (b v y))) y })) c ]
+        | inl r ↦ absurd (omega (arith, count-pos u (g .size) (r .0) (r .1) (weak-parts u (r .0) (r .2) .0)))
+        | inr f ↦ colours-fewer g s u k (is .covers u (record { within = b; each = λ v y. strong-part u v (f v (held-below g v (b v y))) y })) c
+      ]
   between (suc n) u h a b =
       elim (some-fails (strong u) (g .size)) [
-        inr f ↦ colours-fewer g s u k (is .covers u (record { within = b; each = λ v y. strong-part u v (f v (held-below g v (b v y))) y })) c
-      | inl r ↦ let x = r .0 in
-          let w = weak-parts u x (r .2) in
-          let less = count-less u (but u x) x (g .size) (r .1) (w .0) (but-self u x) (λ v ne. sym (but-same u x v ne)) in
-          let out : s x ≡ true → ⊥ = λ y. omega (arith, is .supported .each x y, inside-mono g s u x a, w .1) in
-          let rest = between n (but u x) (omega arith) (λ v y. but-same u x v (λ e. out (ap s (sym e) ∙ y)) ∙ a v y) (λ v y. b v (but-other u x v y .0)) in
-          one-more g lw u x k (w .0) (omega (arith, w .1)) rest ]
+        | inr f ↦ colours-fewer g s u k (is .covers u (record { within = b; each = λ v y. strong-part u v (f v (held-below g v (b v y))) y })) c
+        | inl r ↦ let x = r .0 in
+            let w = weak-parts u x (r .2) in
+            let less = count-less u (but u x) x (g .size) (r .1) (w .0) (but-self u x) (λ v ne. sym (but-same u x v ne)) in
+            let out : s x ≡ true → ⊥ = λ y. omega (arith, is .supported .each x y, inside-mono g s u x a, w .1) in
+            let rest = between n (but u x) (omega arith) (λ v y. but-same u x v (λ e. out (ap s (sym e) ∙ y)) ∙ a v y) (λ v y. b v (but-other u x v y .0)) in
+            one-more g lw u x k (w .0) (omega (arith, w .1)) rest
+      ]
 
 pub core-rule : Core-rule
-core-rule g t k s lw is l =
-    ( colours-fewer g (held g) s k (is .supported .within)
-    , λ c. between g lw t k s is l c (count (held g) (g .size)) (held g) (omega arith) (is .supported .within) (λ v y. y) )
+core-rule g t k s lw is l = (
+  colours-fewer g (held g) s k (is .supported .within),
+  λ c. between g lw t k s is l c (count (held g) (g .size)) (held g) (omega arith) (is .supported .within) (λ v y. y),
+)

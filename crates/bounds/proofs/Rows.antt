@@ -39,15 +39,16 @@ members-push p q b zero l f e = absurd (omega arith)
 members-push p q b (suc n) l f e =
     let pn : (b ≤ n) → p n ≡ false = λ h. elim (cases-bool (p n)) [ inr y ↦ y | inl y ↦ absurd (omega (arith, f n y)) ] in
     elim (cases-eq b n) [
-      inl i ↦
-        let qn : q n ≡ true = e n ∙ or-right (p n) (eqb b n) (eq-eqb b n i) in
-        let pf = pn (omega arith) in
-        let s = members-same q p n (λ c h. e c ∙ (let z = ne-eqb b c (omega arith) in grind (arith, tells))) in
-        ap (λ (v : Bool). members q n ++ cond v (n ∷ []) []) qn ∙ ap (λ (v : List ℕ). v ++ n ∷ []) s ∙ ap (λ (v : ℕ). members p n ++ v ∷ []) (sym i) ∙ sym (ap (λ (v : List ℕ). v ++ b ∷ []) (ap (λ (v : Bool). members p n ++ cond v (n ∷ []) []) pf ∙ append-nil (members p n)))
-    | inr i ↦
-        let pf = pn (omega arith) in
-        let qn : q n ≡ false = e n ∙ (let z = ne-eqb b n i in grind (arith, tells)) in
-        ap (λ (v : Bool). members q n ++ cond v (n ∷ []) []) qn ∙ append-nil (members q n) ∙ members-push p q b n (omega arith) f e ∙ sym (ap (λ (v : List ℕ). v ++ b ∷ []) (ap (λ (v : Bool). members p n ++ cond v (n ∷ []) []) pf ∙ append-nil (members p n))) ]
+      | inl i ↦
+          let qn : q n ≡ true = e n ∙ or-right (p n) (eqb b n) (eq-eqb b n i) in
+          let pf = pn (omega arith) in
+          let s = members-same q p n (λ c h. e c ∙ (let z = ne-eqb b c (omega arith) in grind (arith, tells))) in
+          ap (λ (v : Bool). members q n ++ cond v (n ∷ []) []) qn ∙ ap (λ (v : List ℕ). v ++ n ∷ []) s ∙ ap (λ (v : ℕ). members p n ++ v ∷ []) (sym i) ∙ sym (ap (λ (v : List ℕ). v ++ b ∷ []) (ap (λ (v : Bool). members p n ++ cond v (n ∷ []) []) pf ∙ append-nil (members p n)))
+      | inr i ↦
+          let pf = pn (omega arith) in
+          let qn : q n ≡ false = e n ∙ (let z = ne-eqb b n i in grind (arith, tells)) in
+          ap (λ (v : Bool). members q n ++ cond v (n ∷ []) []) qn ∙ append-nil (members q n) ∙ members-push p q b n (omega arith) f e ∙ sym (ap (λ (v : List ℕ). v ++ b ∷ []) (ap (λ (v : Bool). members p n ++ cond v (n ∷ []) []) pf ∙ append-nil (members p n)))
+    ]
 
 -- the edges from a to its later neighbours of rank below i
 unfoldable pub met-edges : Graph → ℕ → ℕ → List Edge
@@ -115,8 +116,9 @@ unfolding edges-below
 below-mono g a zero l = omega (arith, ap (λ v. length (edges-below g v)) (let e : a ≡ 0 = omega arith in e))
 below-mono g a (suc c) l =
     elim (cases-eq a (suc c)) [
-      inl e ↦ omega (arith, ap (λ v. length (edges-below g v)) e)
-    | inr e ↦ omega (arith, below-mono g a c (omega arith), length-append (edges-below g c) (edges-at g c)) ]
+      | inl e ↦ omega (arith, ap (λ v. length (edges-below g v)) e)
+      | inr e ↦ omega (arith, below-mono g a c (omega arith), length-append (edges-below g c) (edges-at g c))
+    ]
 
 pub below-le : (g : Graph) (a : ℕ) → g .size < 1025 → length (edges-below g a) ≤ 1024 * a
 unfolding edges-below inside

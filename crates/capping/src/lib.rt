@@ -1,17 +1,16 @@
 //! A bound on the cliques of a graph: the smaller of degeneracy + 1 and community number + 2.
 ghost use mathlib.Core.Path.{_≡_};
 ghost use mathlib.Core.Bool.{cond};
-ghost use Prim.Native.Nat.{ℕ, _<_, _≤_};
+ghost use Prim.Native.Nat.{ℕ, _≤_, min};
 ghost use lib.Dec.{ltb};
 ghost use lib.ListN.{length, getD};
 ghost use Rattle.std.specs.Options.{Cases as BySome};
 ghost use Rattle.std.specs.Results.{Cases};
-ghost use Rattle.items.specs.Marks.{Wiped};
-ghost use Rattle.peeling.specs.Peeling.{Fits, Too-large};
-ghost use Rattle.bounds.specs.Cap.{Capped-in, Cap-fits, Cap-refused, edge-count};
+ghost use Rattle.bounds.specs.Cap.{Capped-in, Cap-fits, Cap-refused};
 use communities::Below;
 use communities::EdgesPeeled;
-use edges::{edge_total, write_edges};
+use edges::edge_total;
+use edges::write_edges;
 use graph::Listed;
 use graph::Source;
 use graph::edge::Edge;
@@ -32,6 +31,13 @@ fn fill(bytes: &mut [u8], m: usize, v: u8)
     }
 }
 
+// The smaller of two numbers.
+fn smaller(a: usize, b: usize) -> usize
+    ensures { λ r. ⌜ r ≡ min a b ⌝ }
+{
+    if a < b { a } else { b }
+}
+
 // What refuses m edges and n vertices in buffers of these lengths.
 fn refusal<S: Listed>(source: &S, clashes: usize, living: usize, marks: usize) -> Option<Refusal>
     ensures { λ r. ⌜ BySome r (Cap-fits (S·Source .graph (now (source .entry))) clashes living marks) (Cap-refused (S·Source .graph (now (source .entry))) clashes living marks) ⌝ }
@@ -49,7 +55,12 @@ fn refusal<S: Listed>(source: &S, clashes: usize, living: usize, marks: usize) -
 /// The bound on the cliques of a graph: 0 without vertices, 1 without edges, else the smaller of degeneracy + 1 and
 /// community number + 2. Lists all edges in `clashes`, writes 1 in `living` at those of the last community and 0 at
 /// the others, and leaves the first n marks 0. Refuses more than 16,384 edges, and then a buffer that is too short.
-pub fn cap<S: Listed>(source: &S, clashes: &mut [Edge], living: &mut [u8], marks: &mut [u8]) -> Result<usize, Refusal>
+pub fn cap<S: Listed>(
+    source: &S,
+    clashes: &mut [Edge],
+    living: &mut [u8],
+    marks: &mut [u8],
+) -> Result<usize, Refusal>
     ensures cases { λ r. ⌜ Cases r (λ top. Capped-in (S·Source .graph (now (source .entry))) (now (clashes .entry)) (now (clashes .exit)) (now (living .entry)) (now (living .exit)) (now (marks .entry)) (now (marks .exit)) top) (λ _. (now (clashes .exit) ≡ now (clashes .entry)) × (now (living .exit) ≡ now (living .entry)) × (now (marks .exit) ≡ now (marks .entry))) ⌝ }
     ensures refused { λ r. ⌜ Cases r (λ _. Cap-fits (S·Source .graph (now (source .entry))) (length (now (clashes .entry))) (length (now (living .entry))) (length (now (marks .entry)))) (λ x. Cap-refused (S·Source .graph (now (source .entry))) (length (now (clashes .entry))) (length (now (living .entry))) (length (now (marks .entry))) x) ⌝ }
 {
@@ -71,5 +82,5 @@ pub fn cap<S: Listed>(source: &S, clashes: &mut [Edge], living: &mut [u8], marks
     let Ok(number) = deepest(&pool, &clashes[0..m], living, marks) else {
         return Err(Refusal::ShortBuffer);
     };
-    Ok((found.degeneracy + 1).min(number + 2))
+    Ok(smaller(found.degeneracy + 1, number + 2))
 }

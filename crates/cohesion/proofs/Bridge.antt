@@ -35,8 +35,9 @@ module _ (g : Graph) (list : List Edge) (all : (a b : ℕ) → joins list a b �
       let e = edge-at list (k .place) in
       let h = f (k .place) (k .member) in
       elim (ends-cases e u w (k .joined)) [
-        inl p ↦ subst (λ v. t ≤ shared (g .size) list s v w) (sym (p .0)) (subst (λ v. t ≤ shared (g .size) list s (e .a) v) (sym (p .1)) h)
-      | inr p ↦ subst (λ v. t ≤ shared (g .size) list s v w) (sym (p .0)) (subst (λ v. t ≤ shared (g .size) list s (e .b) v) (sym (p .1)) (subst (λ v. t ≤ v) (shared-swap (g .size) list s (e .a) (e .b)) h)) ]
+        | inl p ↦ subst (λ v. t ≤ shared (g .size) list s v w) (sym (p .0)) (subst (λ v. t ≤ shared (g .size) list s (e .a) v) (sym (p .1)) h)
+        | inr p ↦ subst (λ v. t ≤ shared (g .size) list s v w) (sym (p .0)) (subst (λ v. t ≤ shared (g .size) list s (e .b) v) (sym (p .1)) (subst (λ v. t ≤ v) (shared-swap (g .size) list s (e .a) (e .b)) h))
+      ]
 
   -- the places of a set of edges
   places : (ℕ → ℕ → Bool) → ℕ → Bool
@@ -49,25 +50,30 @@ module _ (g : Graph) (list : List Edge) (all : (a b : ℕ) → joins list a b �
       let r = joins-place list u w (all u w ∙ h .within u w y) in
       let e = edge-at list (r .0) in
       linked-from list (places d) u w (r .0) (r .1) (and-from (ltb (r .0) (length list)) (d (e .a) (e .b)) (lt-ltb (r .0) (length list) (r .1)) (elim (ends-cases e u w (r .2)) [
-          inl p ↦ sym (ap (λ v. d v w) (p .0) ∙ ap (d (e .a)) (p .1)) ∙ y
-        | inr p ↦ h .both (e .a) (e .b) ∙ sym (ap (λ v. d v w) (p .0) ∙ ap (d (e .b)) (p .1)) ∙ y ])) (r .2)
+        | inl p ↦ sym (ap (λ v. d v w) (p .0) ∙ ap (d (e .a)) (p .1)) ∙ y
+        | inr p ↦ h .both (e .a) (e .b) ∙ sym (ap (λ v. d v w) (p .0) ∙ ap (d (e .b)) (p .1)) ∙ y
+      ])) (r .2)
 
   placed-supported : (d : ℕ → ℕ → Bool) (t : ℕ) → Tight g t d → Supported (common (g .size) list) t (everywhere (length list)) (places d)
   unfolding places common shared
   placed-supported d t h =
-      record { within = λ i y. and-parts (ltb i (length list)) (d (edge-at list i .a) (edge-at list i .b)) y .0
-      ; each = λ i y. let e = edge-at list i in
-          let z = and-parts (ltb i (length list)) (d (e .a) (e .b)) y .1 in
-          let k = h .each (e .a) (e .b) z in
-          let m = count-mono (λ w. d (e .a) w && d (e .b) w) (λ w. linked list (places d) (e .a) w && linked list (places d) (e .b) w) (g .size) (λ w l q. let r = and-parts (d (e .a) w) (d (e .b) w) q in and-from (linked list (places d) (e .a) w) (linked list (places d) (e .b) w) (placed d t h (e .a) w (r .0)) (placed d t h (e .b) w (r .1))) in
-          omega arith }
+      record {
+        within = λ i y. and-parts (ltb i (length list)) (d (edge-at list i .a) (edge-at list i .b)) y .0;
+        each = λ i y. let e = edge-at list i in
+            let z = and-parts (ltb i (length list)) (d (e .a) (e .b)) y .1 in
+            let k = h .each (e .a) (e .b) z in
+            let m = count-mono (λ w. d (e .a) w && d (e .b) w) (λ w. linked list (places d) (e .a) w && linked list (places d) (e .b) w) (g .size) (λ w l q. let r = and-parts (d (e .a) w) (d (e .b) w) q in and-from (linked list (places d) (e .a) w) (linked list (places d) (e .b) w) (placed d t h (e .a) w (r .0)) (placed d t h (e .b) w (r .1))) in
+            omega arith;
+      }
 
   pub largest-community : (t : ℕ) (s : ℕ → Bool) → Largest (common (g .size) list) t (everywhere (length list)) s → Community-of g t (linked list s)
   unfolding shared
   largest-community t s h =
-      record { tight = record { within = λ a b y. link-clash s a b (linked-true list s a b y); both = linked-both list s; each = tight-each t s (h .supported .each) }
-      ; covers = λ d k a b y. let l = linked-true list (places d) a b (placed d t k a b y) in
-          linked-from list s a b (l .place) (l .within) (h .covers (places d) (placed-supported d t k) (l .place) (l .member)) (l .joined) }
+      record {
+        tight = record { within = λ a b y. link-clash s a b (linked-true list s a b y); both = linked-both list s; each = tight-each t s (h .supported .each) };
+        covers = λ d k a b y. let l = linked-true list (places d) a b (placed d t k a b y) in
+            linked-from list s a b (l .place) (l .within) (h .covers (places d) (placed-supported d t k) (l .place) (l .member)) (l .joined);
+      }
 
   place-edge : (s : ℕ → Bool) (i : ℕ) → i < length list → s i ≡ true → Has-edge (linked list s)
   place-edge s i l y =
@@ -77,11 +83,13 @@ module _ (g : Graph) (list : List Edge) (all : (a b : ℕ) → joins list a b �
   pub deepest-number : (k : ℕ) (s : ℕ → Bool) → 0 < length list → Deepest (common (g .size) list) (everywhere (length list)) s k → Is-community-number g k
   deepest-number k s pos d =
       let w = d .some 0 (lt-ltb 0 (length list) pos) in
-      record { set = linked list s
-      ; community = largest-community k s (d .level)
-      ; has = place-edge s (w .0) (ltb-true (w .0) (length list) (d .level .supported .within (w .0) (w .1))) (w .1)
-      ; most = λ t e h q. let l = linked-true list (places e) (q .left) (q .right) (placed e t h (q .left) (q .right) (q .edge)) in
-          d .most t (places e) (placed-supported e t h) (l .place) (l .member) }
+      record {
+        set = linked list s;
+        community = largest-community k s (d .level);
+        has = place-edge s (w .0) (ltb-true (w .0) (length list) (d .level .supported .within (w .0) (w .1))) (w .1);
+        most = λ t e h q. let l = linked-true list (places e) (q .left) (q .right) (placed e t h (q .left) (q .right) (q .edge)) in
+            d .most t (places e) (placed-supported e t h) (l .place) (l .member);
+      }
 
 -- there is one community number
 pub number-one : (g : Graph) (j k : ℕ) → Is-community-number g j → Is-community-number g k → j ≡ k

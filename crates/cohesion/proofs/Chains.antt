@@ -31,18 +31,21 @@ unfolding last-at
 last-gap list u zero i l m = absurd (omega arith)
 last-gap list u (suc j) i l m =
     elim (cases-bool (touches (edge-at list j) u)) [
-      inl y ↦ absurd (omega (arith, cond-true (touches (edge-at list j) u) (suc j) (last-at list u j) y))
-    | inr y ↦ elim (cases-eq i j) [
-        inl e ↦ ap (λ v. touches (edge-at list v) u) e ∙ y
-      | inr e ↦ last-gap list u j i (omega (arith, cond-false (touches (edge-at list j) u) (suc j) (last-at list u j) y)) (omega arith) ] ]
+      | inl y ↦ absurd (omega (arith, cond-true (touches (edge-at list j) u) (suc j) (last-at list u j) y))
+      | inr y ↦ elim (cases-eq i j) [
+        | inl e ↦ ap (λ v. touches (edge-at list v) u) e ∙ y
+        | inr e ↦ last-gap list u j i (omega (arith, cond-false (touches (edge-at list j) u) (suc j) (last-at list u j) y)) (omega arith)
+      ]
+    ]
 
 pub last-here : (list : List Edge) (u j e : ℕ) → last-at list u j ≡ e + 1 → touches (edge-at list e) u ≡ true
 unfolding last-at
 last-here list u zero e q = absurd (omega arith)
 last-here list u (suc j) e q =
     elim (cases-bool (touches (edge-at list j) u)) [
-      inl y ↦ let z : j ≡ e = omega (arith, cond-true (touches (edge-at list j) u) (suc j) (last-at list u j) y) in ap (λ v. touches (edge-at list v) u) (sym z) ∙ y
-    | inr y ↦ last-here list u j e (sym (cond-false (touches (edge-at list j) u) (suc j) (last-at list u j) y) ∙ q) ]
+      | inl y ↦ let z : j ≡ e = omega (arith, cond-true (touches (edge-at list j) u) (suc j) (last-at list u j) y) in ap (λ v. touches (edge-at list v) u) (sym z) ∙ y
+      | inr y ↦ last-here list u j e (sym (cond-false (touches (edge-at list j) u) (suc j) (last-at list u j) y) ∙ q)
+    ]
 
 pub last-more-yes : (list : List Edge) (u j : ℕ) → touches (edge-at list j) u ≡ true → last-at list u (j + 1) ≡ j + 1
 unfolding last-at
@@ -90,8 +93,9 @@ over-from s cur i y l = and-from (s i) (not (ltb i cur)) y (not-from-false (ltb 
 bools : (p q : Bool) → (p ≡ true → q ≡ true) → (q ≡ true → p ≡ true) → p ≡ q
 bools p q f g =
     elim (cases-bool p) [
-      inl y ↦ y ∙ sym (f y)
-    | inr y ↦ elim (cases-bool q) [ inl z ↦ absurd (both-ways p y (g z)) | inr z ↦ y ∙ sym z ] ]
+      | inl y ↦ y ∙ sym (f y)
+      | inr y ↦ elim (cases-bool q) [ inl z ↦ absurd (both-ways p y (g z)) | inr z ↦ y ∙ sym z ]
+    ]
 
 -- the vertices met at u
 abbrev pub met : List Edge → (ℕ → Bool) → ℕ → ℕ → ℕ → Bool
@@ -100,9 +104,10 @@ met list s u cur w = linked list (over s cur) u w
 pub met-none : (list : List Edge) (s : ℕ → Bool) (u cur : ℕ) → cur ≡ last-at list u (length list) → (w : ℕ) → met list s u cur w ≡ false
 met-none list s u cur e w =
     elim (cases-bool (met list s u cur w)) [
-      inr y ↦ y
-    | inl y ↦ absurd (let k = linked-true list (over s cur) u w y in
-        both-ways (touches (edge-at list (k .place)) u) (last-gap list u (length list) (k .place) (omega (arith, over-parts s cur (k .place) (k .member) .1)) (k .within)) (ends-touch (edge-at list (k .place)) u w (k .joined))) ]
+      | inr y ↦ y
+      | inl y ↦ absurd (let k = linked-true list (over s cur) u w y in
+          both-ways (touches (edge-at list (k .place)) u) (last-gap list u (length list) (k .place) (omega (arith, over-parts s cur (k .place) (k .member) .1)) (k .within)) (ends-touch (edge-at list (k .place)) u w (k .joined)))
+    ]
 
 pub met-all : (list : List Edge) (s : ℕ → Bool) (u w : ℕ) → met list s u 0 w ≡ linked list s u w
 met-all list s u w =
@@ -123,10 +128,12 @@ module _ (list : List Edge) (s : ℕ → Bool) (u cur next : ℕ) (wk : Walk lis
           let k = linked-true list (over s next) u w y in
           let m = over-parts s next (k .place) (k .member) in
           elim (cases-lt (k .place) (cur - 1)) [
-            inl l ↦ absurd (both-ways (touches (edge-at list (k .place)) u) (last-gap list u (cur - 1) (k .place) (omega (arith, m .1)) l) (ends-touch (edge-at list (k .place)) u w (k .joined)))
-          | inr l ↦ elim (cases-eq (k .place) (cur - 1)) [
-              inl i ↦ or-right (met list s u cur w) (s (cur - 1) && ends (edge-at list (cur - 1)) u w) (subst (λ v. (s v && ends (edge-at list v) u w) ≡ true) i (and-from (s (k .place)) (ends (edge-at list (k .place)) u w) (m .0) (k .joined)))
-            | inr i ↦ or-left (met list s u cur w) (s (cur - 1) && ends (edge-at list (cur - 1)) u w) (linked-from list (over s cur) u w (k .place) (k .within) (over-from s cur (k .place) (m .0) (omega arith)) (k .joined)) ] ]
+            | inl l ↦ absurd (both-ways (touches (edge-at list (k .place)) u) (last-gap list u (cur - 1) (k .place) (omega (arith, m .1)) l) (ends-touch (edge-at list (k .place)) u w (k .joined)))
+            | inr l ↦ elim (cases-eq (k .place) (cur - 1)) [
+              | inl i ↦ or-right (met list s u cur w) (s (cur - 1) && ends (edge-at list (cur - 1)) u w) (subst (λ v. (s v && ends (edge-at list v) u w) ≡ true) i (and-from (s (k .place)) (ends (edge-at list (k .place)) u w) (m .0) (k .joined)))
+              | inr i ↦ or-left (met list s u cur w) (s (cur - 1) && ends (edge-at list (cur - 1)) u w) (linked-from list (over s cur) u w (k .place) (k .within) (over-from s cur (k .place) (m .0) (omega arith)) (k .joined))
+            ]
+          ]
 
       low : next ≤ cur - 1
       low = omega (arith, nx, last-le list u (cur - 1))
@@ -134,10 +141,11 @@ module _ (list : List Edge) (s : ℕ → Bool) (u cur next : ℕ) (wk : Walk lis
       back : (met list s u cur w || (s (cur - 1) && ends (edge-at list (cur - 1)) u w)) ≡ true → met list s u next w ≡ true
       back y =
           elim (or-cases (met list s u cur w) (s (cur - 1) && ends (edge-at list (cur - 1)) u w) y) [
-            inl z ↦ let k = linked-true list (over s cur) u w z in let m = over-parts s cur (k .place) (k .member) in
-              linked-from list (over s next) u w (k .place) (k .within) (over-from s next (k .place) (m .0) (omega (arith, low, m .1))) (k .joined)
-          | inr z ↦ let m = and-parts (s (cur - 1)) (ends (edge-at list (cur - 1)) u w) z in
-              linked-from list (over s next) u w (cur - 1) (omega (arith, walk-within list u cur wk)) (over-from s next (cur - 1) (m .0) low) (m .1) ]
+            | inl z ↦ let k = linked-true list (over s cur) u w z in let m = over-parts s cur (k .place) (k .member) in
+                linked-from list (over s next) u w (k .place) (k .within) (over-from s next (k .place) (m .0) (omega (arith, low, m .1))) (k .joined)
+            | inr z ↦ let m = and-parts (s (cur - 1)) (ends (edge-at list (cur - 1)) u w) z in
+                linked-from list (over s next) u w (cur - 1) (omega (arith, walk-within list u cur wk)) (over-from s next (cur - 1) (m .0) low) (m .1)
+          ]
 
   pub met-yes : (x : ℕ) → edge-at list (cur - 1) .a < edge-at list (cur - 1) .b → x ≡ far (edge-at list (cur - 1)) u → s (cur - 1) ≡ true → (w : ℕ) → met list s u next w ≡ (met list s u cur w || eqb x w)
   met-yes x lt ex y w =

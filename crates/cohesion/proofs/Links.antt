@@ -47,8 +47,9 @@ linked-mono list s t u w f y =
 bools : (p q : Bool) → (p ≡ true → q ≡ true) → (q ≡ true → p ≡ true) → p ≡ q
 bools p q f g =
     elim (cases-bool p) [
-      inl y ↦ y ∙ sym (f y)
-    | inr y ↦ elim (cases-bool q) [ inl z ↦ absurd (both-ways p y (g z)) | inr z ↦ y ∙ sym z ] ]
+      | inl y ↦ y ∙ sym (f y)
+      | inr y ↦ elim (cases-bool q) [ inl z ↦ absurd (both-ways p y (g z)) | inr z ↦ y ∙ sym z ]
+    ]
 
 pub linked-both : (list : List Edge) (s : ℕ → Bool) (u w : ℕ) → linked list s u w ≡ linked list s w u
 linked-both list s u w = bools (linked list s u w) (linked list s w u) (turn u w) (turn w u)
@@ -108,10 +109,12 @@ module _ (n : ℕ) (list : List Edge) (r : Rising n None list) (s : ℕ → Bool
       let off : (w : ℕ) → (w ≡ v → ⊥) → P w ≡ Q w = λ w ne. sym (ap (λ b. b && linked list (but s x) z w) (linked-kept u w (f w ne)) ∙ ap (λ b. linked list s u w && b) (linked-kept z w (g w))) in
       let gone : Q v ≡ false = and-left (linked list (but s x) u v) (linked list (but s x) z v) (linked-but u v ∙ and-right (linked list s u v) (not (ends (edge-at list x) u v)) (not-from-true (ends (edge-at list x) u v) e)) in
       elim (cases-bool (linked list s z v)) [
-        inl y ↦ count-less P Q v n lv (and-from (linked list s u v) (linked list s z v) (linked-from list s u v x lx sx e) y) gone off ∙ ap (λ (k : ℕ). count Q n + k) (sym (cond-true {A = ℕ} (linked list s z v) 1 0 y))
-      | inr y ↦ count-same P Q n (λ w l. elim (cases-eq w v) [
-            inl i ↦ ap P i ∙ and-right (linked list s u v) (linked list s z v) y ∙ sym gone ∙ ap Q (sym i)
-          | inr i ↦ off w i ]) ∙ sym (ap (λ (k : ℕ). count Q n + k) (cond-false {A = ℕ} (linked list s z v) 1 0 y) ∙ add-zero (count Q n)) ]
+        | inl y ↦ count-less P Q v n lv (and-from (linked list s u v) (linked list s z v) (linked-from list s u v x lx sx e) y) gone off ∙ ap (λ (k : ℕ). count Q n + k) (sym (cond-true {A = ℕ} (linked list s z v) 1 0 y))
+        | inr y ↦ count-same P Q n (λ w l. elim (cases-eq w v) [
+          | inl i ↦ ap P i ∙ and-right (linked list s u v) (linked list s z v) y ∙ sym gone ∙ ap Q (sym i)
+          | inr i ↦ off w i
+        ]) ∙ sym (ap (λ (k : ℕ). count Q n + k) (cond-false {A = ℕ} (linked list s z v) 1 0 y) ∙ add-zero (count Q n))
+      ]
 
   -- whether the edge at c has the end u, and its other end is linked to both ends of x
   abbrev pub leans : ℕ → ℕ → Bool
@@ -127,22 +130,25 @@ module _ (n : ℕ) (list : List Edge) (r : Rising n None list) (s : ℕ → Bool
   unfolding xa xb
   not-end z p q w =
       elim (cases-bool (ends (edge-at list x) z w)) [
-        inr y ↦ y
-      | inl y ↦ absurd (elim (ends-cases (edge-at list x) z w y) [ inl h ↦ p (h .0) | inr h ↦ q (h .0) ]) ]
+        | inr y ↦ y
+        | inl y ↦ absurd (elim (ends-cases (edge-at list x) z w y) [ inl h ↦ p (h .0) | inr h ↦ q (h .0) ])
+      ]
 
   off-a : (w : ℕ) → (w ≡ xb → ⊥) → ends (edge-at list x) xa w ≡ false
   unfolding xa xb
   off-a w ne =
       elim (cases-bool (ends (edge-at list x) xa w)) [
-        inr y ↦ y
-      | inl y ↦ absurd (elim (ends-cases (edge-at list x) xa w y) [ inl h ↦ ne (h .1) | inr h ↦ omega (arith, h .0, smaller n list r x lx) ]) ]
+        | inr y ↦ y
+        | inl y ↦ absurd (elim (ends-cases (edge-at list x) xa w y) [ inl h ↦ ne (h .1) | inr h ↦ omega (arith, h .0, smaller n list r x lx) ])
+      ]
 
   off-b : (w : ℕ) → (w ≡ xa → ⊥) → ends (edge-at list x) xb w ≡ false
   unfolding xa xb
   off-b w ne =
       elim (cases-bool (ends (edge-at list x) xb w)) [
-        inr y ↦ y
-      | inl y ↦ absurd (elim (ends-cases (edge-at list x) xb w y) [ inl h ↦ omega (arith, h .0, smaller n list r x lx) | inr h ↦ ne (h .1) ]) ]
+        | inr y ↦ y
+        | inl y ↦ absurd (elim (ends-cases (edge-at list x) xb w y) [ inl h ↦ omega (arith, h .0, smaller n list r x lx) | inr h ↦ ne (h .1) ])
+      ]
 
   own-b : ends (edge-at list x) xb xa ≡ true
   unfolding xa xb
@@ -154,9 +160,10 @@ module _ (n : ℕ) (list : List Edge) (r : Rising n None list) (s : ℕ → Bool
   lost-at c u v z lc sc lv e ex f g =
       let h = shared-less u v z lv ex f g in
       elim (ends-cases (edge-at list c) u z e) [
-        inl p ↦ subst (λ i. shared n list s i (edge-at list c .b) ≡ shared n list (but s x) i (edge-at list c .b) + cond (linked list s z v) 1 0) (p .0) (subst (λ i. shared n list s u i ≡ shared n list (but s x) u i + cond (linked list s z v) 1 0) (p .1) h)
-      | inr p ↦ let k = shared-swap n list s z u ∙ h ∙ ap (λ (i : ℕ). i + cond (linked list s z v) 1 0) (shared-swap n list (but s x) u z) in
-          subst (λ i. shared n list s i (edge-at list c .b) ≡ shared n list (but s x) i (edge-at list c .b) + cond (linked list s z v) 1 0) (p .1) (subst (λ i. shared n list s z i ≡ shared n list (but s x) z i + cond (linked list s z v) 1 0) (p .0) k) ]
+        | inl p ↦ subst (λ i. shared n list s i (edge-at list c .b) ≡ shared n list (but s x) i (edge-at list c .b) + cond (linked list s z v) 1 0) (p .0) (subst (λ i. shared n list s u i ≡ shared n list (but s x) u i + cond (linked list s z v) 1 0) (p .1) h)
+        | inr p ↦ let k = shared-swap n list s z u ∙ h ∙ ap (λ (i : ℕ). i + cond (linked list s z v) 1 0) (shared-swap n list (but s x) u z) in
+            subst (λ i. shared n list s i (edge-at list c .b) ≡ shared n list (but s x) i (edge-at list c .b) + cond (linked list s z v) 1 0) (p .1) (subst (λ i. shared n list s z i ≡ shared n list (but s x) z i + cond (linked list s z v) 1 0) (p .0) k)
+      ]
 
   common-kept : (c : ℕ) → ((w : ℕ) → ends (edge-at list x) (edge-at list c .a) w ≡ false) → ((w : ℕ) → ends (edge-at list x) (edge-at list c .b) w ≡ false) → common n list s c ≡ common n list (but s x) c
   unfolding common
@@ -165,11 +172,13 @@ module _ (n : ℕ) (list : List Edge) (r : Rising n None list) (s : ℕ → Bool
   linked-self : (u : ℕ) → linked list s u u ≡ false
   linked-self u =
       elim (cases-bool (linked list s u u)) [
-        inr y ↦ y
-      | inl y ↦ absurd (let k = linked-true list s u u y in
-          elim (ends-cases (edge-at list (k .place)) u u (k .joined)) [
-            inl h ↦ omega (arith, h .0, h .1, smaller n list r (k .place) (k .within))
-          | inr h ↦ omega (arith, h .0, h .1, smaller n list r (k .place) (k .within)) ]) ]
+        | inr y ↦ y
+        | inl y ↦ absurd (let k = linked-true list s u u y in
+            elim (ends-cases (edge-at list (k .place)) u u (k .joined)) [
+              | inl h ↦ omega (arith, h .0, h .1, smaller n list r (k .place) (k .within))
+              | inr h ↦ omega (arith, h .0, h .1, smaller n list r (k .place) (k .within))
+            ])
+      ]
 
   -- of the two ends of x the edge at c has one only
   lean-a : (c z : ℕ) → s c ≡ true → touches (edge-at list c) xa ≡ true → touches (edge-at list c) xb ≡ false → far (edge-at list c) xa ≡ z → linked list s xa z ≡ true → (leans xa c || leans xb c) ≡ linked list s z xb
@@ -220,26 +229,30 @@ module _ (n : ℕ) (list : List Edge) (r : Rising n None list) (s : ℕ → Bool
       let two : ca ≡ xa → cb ≡ xb → ⊥ = λ p q. ne (place-one n list r c x xa xb lc lx (subst (λ v. ends (edge-at list c) v xb ≡ true) p (subst (λ v. ends (edge-at list c) ca v ≡ true) q own)) (ends-own (edge-at list x))) in
       let done : (b : Bool) (k : ℕ) → (leans xa c || leans xb c) ≡ b → common n list s c ≡ common n list (but s x) c + cond b 1 0 → common n list s c ≡ common n list (but s x) c + cond (leans xa c || leans xb c) 1 0 = λ b k e h. h ∙ ap (λ (v : Bool). common n list (but s x) c + cond v 1 0) (sym e) in
       elim (cases-eq ca xa) [
-        inl p ↦
-          let e : ends (edge-at list c) xa cb ≡ true = subst (λ v. ends (edge-at list c) v cb ≡ true) p own in
-          let tb = apart c xb (λ q. omega arith) (λ q. two p q) in
-          done (linked list s cb xb) 0 (lean-a c cb sc (ends-touch (edge-at list c) xa cb e) tb (far-a (edge-at list c) xa p) (linked-from list s xa cb c lc sc e)) (lost-at c xa xb cb lc sc bb e (ends-own (edge-at list x)) off-a (not-end cb (λ q. omega arith) (λ q. two p q)))
-      | inr p ↦ elim (cases-eq ca xb) [
-          inl q ↦
-            let e : ends (edge-at list c) xb cb ≡ true = subst (λ v. ends (edge-at list c) v cb ≡ true) q own in
-            let ta = apart c xa p (λ h. omega arith) in
-            done (linked list s cb xa) 0 (lean-b c cb sc (ends-touch (edge-at list c) xb cb e) ta (far-a (edge-at list c) xb q) (linked-from list s xb cb c lc sc e)) (lost-at c xb xa cb lc sc (omega arith) e own-b off-b (not-end cb (λ h. omega arith) (λ h. omega arith)))
-        | inr q ↦ elim (cases-eq cb xa) [
-            inl h ↦
-              let e : ends (edge-at list c) xa ca ≡ true = subst (λ v. ends (edge-at list c) v ca ≡ true) h (ends-both (edge-at list c) cb ca ∙ own) in
-              let tb = apart c xb q (λ k. omega arith) in
-              done (linked list s ca xb) 0 (lean-a c ca sc (ends-touch (edge-at list c) xa ca e) tb (far-b (edge-at list c) xa lt h) (linked-from list s xa ca c lc sc e)) (lost-at c xa xb ca lc sc bb e (ends-own (edge-at list x)) off-a (not-end ca p q))
-          | inr h ↦ elim (cases-eq cb xb) [
-              inl k ↦
-                let e : ends (edge-at list c) xb ca ≡ true = subst (λ v. ends (edge-at list c) v ca ≡ true) k (ends-both (edge-at list c) cb ca ∙ own) in
-                let ta = apart c xa p h in
-                done (linked list s ca xa) 0 (lean-b c ca sc (ends-touch (edge-at list c) xb ca e) ta (far-b (edge-at list c) xb lt k) (linked-from list s xb ca c lc sc e)) (lost-at c xb xa ca lc sc (omega arith) e own-b off-b (not-end ca p q))
-            | inr k ↦ done false 0 (lean-none c (apart c xa p h) (apart c xb q k)) (kept-at c (not-end ca p q) (not-end cb h k)) ] ] ] ]
+        | inl p ↦
+            let e : ends (edge-at list c) xa cb ≡ true = subst (λ v. ends (edge-at list c) v cb ≡ true) p own in
+            let tb = apart c xb (λ q. omega arith) (λ q. two p q) in
+            done (linked list s cb xb) 0 (lean-a c cb sc (ends-touch (edge-at list c) xa cb e) tb (far-a (edge-at list c) xa p) (linked-from list s xa cb c lc sc e)) (lost-at c xa xb cb lc sc bb e (ends-own (edge-at list x)) off-a (not-end cb (λ q. omega arith) (λ q. two p q)))
+        | inr p ↦ elim (cases-eq ca xb) [
+          | inl q ↦
+              let e : ends (edge-at list c) xb cb ≡ true = subst (λ v. ends (edge-at list c) v cb ≡ true) q own in
+              let ta = apart c xa p (λ h. omega arith) in
+              done (linked list s cb xa) 0 (lean-b c cb sc (ends-touch (edge-at list c) xb cb e) ta (far-a (edge-at list c) xb q) (linked-from list s xb cb c lc sc e)) (lost-at c xb xa cb lc sc (omega arith) e own-b off-b (not-end cb (λ h. omega arith) (λ h. omega arith)))
+          | inr q ↦ elim (cases-eq cb xa) [
+            | inl h ↦
+                let e : ends (edge-at list c) xa ca ≡ true = subst (λ v. ends (edge-at list c) v ca ≡ true) h (ends-both (edge-at list c) cb ca ∙ own) in
+                let tb = apart c xb q (λ k. omega arith) in
+                done (linked list s ca xb) 0 (lean-a c ca sc (ends-touch (edge-at list c) xa ca e) tb (far-b (edge-at list c) xa lt h) (linked-from list s xa ca c lc sc e)) (lost-at c xa xb ca lc sc bb e (ends-own (edge-at list x)) off-a (not-end ca p q))
+            | inr h ↦ elim (cases-eq cb xb) [
+              | inl k ↦
+                  let e : ends (edge-at list c) xb ca ≡ true = subst (λ v. ends (edge-at list c) v ca ≡ true) k (ends-both (edge-at list c) cb ca ∙ own) in
+                  let ta = apart c xa p h in
+                  done (linked list s ca xa) 0 (lean-b c ca sc (ends-touch (edge-at list c) xb ca e) ta (far-b (edge-at list c) xb lt k) (linked-from list s xb ca c lc sc e)) (lost-at c xb xa ca lc sc (omega arith) e own-b off-b (not-end ca p q))
+              | inr k ↦ done false 0 (lean-none c (apart c xa p h) (apart c xb q k)) (kept-at c (not-end ca p q) (not-end cb h k))
+            ]
+          ]
+        ]
+      ]
     where
       kept-at : (c : ℕ) → ((w : ℕ) → ends (edge-at list x) (edge-at list c .a) w ≡ false) → ((w : ℕ) → ends (edge-at list x) (edge-at list c .b) w ≡ false) → common n list s c ≡ common n list (but s x) c + 0
       kept-at c f g = common-kept c f g ∙ sym (add-zero (common n list (but s x) c))
@@ -253,10 +266,12 @@ module _ (n : ℕ) (list : List Edge) (r : Rising n None list) (s : ℕ → Bool
       let ta = touching xa p in
       let tb = touching xb q in
       elim (touch-cases (edge-at list c) xa ta) [
-        inl ea ↦ elim (touch-cases (edge-at list c) xb tb) [
-            inl eb ↦ omega arith
-          | inr eb ↦ both-ways (linked list s xb xb) (linked-self xb) (ap (linked list s xb) (sym (far-a (edge-at list c) xa ea ∙ eb)) ∙ farther xa p) ]
-      | inr ea ↦ elim (touch-cases (edge-at list c) xb tb) [ inl eb ↦ omega arith | inr eb ↦ omega arith ] ]
+        | inl ea ↦ elim (touch-cases (edge-at list c) xb tb) [
+          | inl eb ↦ omega arith
+          | inr eb ↦ both-ways (linked list s xb xb) (linked-self xb) (ap (linked list s xb) (sym (far-a (edge-at list c) xa ea ∙ eb)) ∙ farther xa p)
+        ]
+        | inr ea ↦ elim (touch-cases (edge-at list c) xb tb) [ inl eb ↦ omega arith | inr eb ↦ omega arith ]
+      ]
     where
       touching : (u : ℕ) → leans u c ≡ true → touches (edge-at list c) u ≡ true
       touching u y = and-parts (touches (edge-at list c) u) (linked list s xa (far (edge-at list c) u) && linked list s xb (far (edge-at list c) u)) (and-parts (s c) (touches (edge-at list c) u && (linked list s xa (far (edge-at list c) u) && linked list s xb (far (edge-at list c) u))) y .1) .0
@@ -267,10 +282,12 @@ module _ (n : ℕ) (list : List Edge) (r : Rising n None list) (s : ℕ → Bool
   pub edge-losers : (out : List ℕ) → count (has out) (length list) ≡ length out → ((c : ℕ) → s c ≡ true → c < length list) → ((c : ℕ) → has out c ≡ (leans (edge-at list x .a) c || leans (edge-at list x .b) c)) → Losers (common n list) (length list) s x out
   unfolding xa xb
   edge-losers out m inside h =
-      record { many = m
-      ; member = λ c y. elim (or-cases (leans xa c) (leans xb c) (sym (h c) ∙ y)) [ inl z ↦ leaner xa c z | inr z ↦ leaner xb c z ]
-      ; other = λ c y i. self-lean (subst (λ v. (leans xa v || leans xb v) ≡ true) i (sym (h c) ∙ y))
-      ; less = λ c y ne. lost c (inside c y) y ne ∙ ap (λ (b : Bool). common n list (but s x) c + cond b 1 0) (sym (h c)) }
+      record {
+        many = m;
+        member = λ c y. elim (or-cases (leans xa c) (leans xb c) (sym (h c) ∙ y)) [ inl z ↦ leaner xa c z | inr z ↦ leaner xb c z ];
+        other = λ c y i. self-lean (subst (λ v. (leans xa v || leans xb v) ≡ true) i (sym (h c) ∙ y));
+        less = λ c y ne. lost c (inside c y) y ne ∙ ap (λ (b : Bool). common n list (but s x) c + cond b 1 0) (sym (h c));
+      }
     where
       leaner : (u c : ℕ) → leans u c ≡ true → s c ≡ true
       leaner u c y = and-parts (s c) (touches (edge-at list c) u && (linked list s xa (far (edge-at list c) u) && linked list s xb (far (edge-at list c) u))) y .0
@@ -285,8 +302,9 @@ module _ (n : ℕ) (list : List Edge) (r : Rising n None list) (s : ℕ → Bool
       self-lean : (leans xa x || leans xb x) ≡ true → ⊥
       self-lean y =
           elim (or-cases (leans xa x) (leans xb x) y) [
-            inl z ↦ both-ways (linked list s xb xb) (linked-self xb) (far-lean xa xb z (far-a (edge-at list x) xa refl) .1)
-          | inr z ↦ both-ways (linked list s xa xa) (linked-self xa) (far-lean xb xa z (far-b (edge-at list x) xb (smaller n list r x lx) refl) .0) ]
+            | inl z ↦ both-ways (linked list s xb xb) (linked-self xb) (far-lean xa xb z (far-a (edge-at list x) xa refl) .1)
+            | inr z ↦ both-ways (linked list s xa xa) (linked-self xa) (far-lean xb xa z (far-b (edge-at list x) xb (smaller n list r x lx) refl) .0)
+          ]
 
 pub common-le : (n : ℕ) (list : List Edge) (s : ℕ → Bool) (i : ℕ) → common n list s i ≤ n
 unfolding common shared

@@ -61,8 +61,9 @@ before-irr e f x y z = grind (arith, tells)
 pub ends-cases : (e : Edge) (u w : ℕ) → ends e u w ≡ true → ((u ≡ e .a) × (w ≡ e .b)) ⊎ ((u ≡ e .b) × (w ≡ e .a))
 ends-cases e u w y =
     elim (or-cases (eqb u (e .a) && eqb w (e .b)) (eqb u (e .b) && eqb w (e .a)) y) [
-      inl h ↦ let p = and-parts (eqb u (e .a)) (eqb w (e .b)) h in inl (eqb-true u (e .a) (p .0), eqb-true w (e .b) (p .1))
-    | inr h ↦ let p = and-parts (eqb u (e .b)) (eqb w (e .a)) h in inr (eqb-true u (e .b) (p .0), eqb-true w (e .a) (p .1)) ]
+      | inl h ↦ let p = and-parts (eqb u (e .a)) (eqb w (e .b)) h in inl (eqb-true u (e .a) (p .0), eqb-true w (e .b) (p .1))
+      | inr h ↦ let p = and-parts (eqb u (e .b)) (eqb w (e .a)) h in inr (eqb-true u (e .b) (p .0), eqb-true w (e .a) (p .1))
+    ]
 
 pub ends-both : (e : Edge) (u w : ℕ) → ends e u w ≡ ends e w u
 ends-both e u w = grind (arith, tells)
@@ -74,22 +75,26 @@ ends-own e = or-left (eqb (e .a) (e .a) && eqb (e .b) (e .b)) (eqb (e .a) (e .b)
 pub ends-far : (e : Edge) (u w : ℕ) → e .a < e .b → touches e u ≡ true → ends e u w ≡ eqb (far e u) w
 ends-far e u w l y =
     elim (cases-eq (e .a) u) [
-      inl i ↦ let a = eq-eqb (e .a) u i in let b = eq-eqb u (e .a) (sym i) in let d = ne-eqb u (e .b) (omega arith) in
-        elim (cases-eq w (e .b)) [
-          inl k ↦ let p = eq-eqb w (e .b) k in let q = eq-eqb (e .b) w (sym k) in grind (arith, tells)
-        | inr k ↦ let p = ne-eqb w (e .b) k in let q = ne-eqb (e .b) w (λ z. k (sym z)) in grind (arith, tells) ]
-    | inr i ↦ let a = ne-eqb (e .a) u i in let b = ne-eqb u (e .a) (λ z. i (sym z)) in
-        let h : e .b ≡ u = eqb-true (e .b) u (elim (or-cases (eqb (e .a) u) (eqb (e .b) u) y) [ inl z ↦ absurd (both-ways (eqb (e .a) u) a z) | inr z ↦ z ]) in
-        let d = eq-eqb u (e .b) (sym h) in
-        elim (cases-eq w (e .a)) [
-          inl k ↦ let p = eq-eqb w (e .a) k in let q = eq-eqb (e .a) w (sym k) in grind (arith, tells)
-        | inr k ↦ let p = ne-eqb w (e .a) k in let q = ne-eqb (e .a) w (λ z. k (sym z)) in grind (arith, tells) ] ]
+      | inl i ↦ let a = eq-eqb (e .a) u i in let b = eq-eqb u (e .a) (sym i) in let d = ne-eqb u (e .b) (omega arith) in
+          elim (cases-eq w (e .b)) [
+            | inl k ↦ let p = eq-eqb w (e .b) k in let q = eq-eqb (e .b) w (sym k) in grind (arith, tells)
+            | inr k ↦ let p = ne-eqb w (e .b) k in let q = ne-eqb (e .b) w (λ z. k (sym z)) in grind (arith, tells)
+          ]
+      | inr i ↦ let a = ne-eqb (e .a) u i in let b = ne-eqb u (e .a) (λ z. i (sym z)) in
+          let h : e .b ≡ u = eqb-true (e .b) u (elim (or-cases (eqb (e .a) u) (eqb (e .b) u) y) [ inl z ↦ absurd (both-ways (eqb (e .a) u) a z) | inr z ↦ z ]) in
+          let d = eq-eqb u (e .b) (sym h) in
+          elim (cases-eq w (e .a)) [
+            | inl k ↦ let p = eq-eqb w (e .a) k in let q = eq-eqb (e .a) w (sym k) in grind (arith, tells)
+            | inr k ↦ let p = ne-eqb w (e .a) k in let q = ne-eqb (e .a) w (λ z. k (sym z)) in grind (arith, tells)
+          ]
+    ]
 
 pub ends-touch : (e : Edge) (u w : ℕ) → ends e u w ≡ true → touches e u ≡ true
 ends-touch e u w y =
     elim (ends-cases e u w y) [
-      inl h ↦ or-left (eqb (e .a) u) (eqb (e .b) u) (eq-eqb (e .a) u (sym (h .0)))
-    | inr h ↦ or-right (eqb (e .a) u) (eqb (e .b) u) (eq-eqb (e .b) u (sym (h .0))) ]
+      | inl h ↦ or-left (eqb (e .a) u) (eqb (e .b) u) (eq-eqb (e .a) u (sym (h .0)))
+      | inr h ↦ or-right (eqb (e .a) u) (eqb (e .b) u) (eq-eqb (e .b) u (sym (h .0)))
+    ]
 
 pub touch-cases : (e : Edge) (u : ℕ) → touches e u ≡ true → (e .a ≡ u) ⊎ (e .b ≡ u)
 touch-cases e u y =
@@ -118,29 +123,35 @@ module _ (n : ℕ) (list : List Edge) (r : Rising n None list) where
   later i (suc j) l m =
       let here : before (edge-at list j) (edge-at list (suc j)) ≡ true = rw (← add-one j) (next j (omega arith)) in
       elim (cases-eq i j) [
-        inl e ↦ subst (λ v. before (edge-at list v) (edge-at list (suc j)) ≡ true) (sym e) here
-      | inr e ↦ before-trans (edge-at list i) (edge-at list j) (edge-at list (suc j)) (later i j (omega arith) (omega arith)) here ]
+        | inl e ↦ subst (λ v. before (edge-at list v) (edge-at list (suc j)) ≡ true) (sym e) here
+        | inr e ↦ before-trans (edge-at list i) (edge-at list j) (edge-at list (suc j)) (later i j (omega arith) (omega arith)) here
+      ]
 
   -- no two places have one pair of ends
   same-ends : (i j u w : ℕ) → i < length list → j < length list → ends (edge-at list i) u w ≡ true → ends (edge-at list j) u w ≡ true → (edge-at list i .a ≡ edge-at list j .a) × (edge-at list i .b ≡ edge-at list j .b)
   same-ends i j u w l m x y =
       let si = smaller i l in let sj = smaller j m in
       elim (ends-cases (edge-at list i) u w x) [
-        inl p ↦ elim (ends-cases (edge-at list j) u w y) [
-            inl q ↦ (sym (p .0) ∙ q .0, sym (p .1) ∙ q .1)
-          | inr q ↦ absurd (omega (arith, p .0, p .1, q .0, q .1)) ]
-      | inr p ↦ elim (ends-cases (edge-at list j) u w y) [
-            inl q ↦ absurd (omega (arith, p .0, p .1, q .0, q .1))
-          | inr q ↦ (sym (p .1) ∙ q .1, sym (p .0) ∙ q .0) ] ]
+        | inl p ↦ elim (ends-cases (edge-at list j) u w y) [
+          | inl q ↦ (sym (p .0) ∙ q .0, sym (p .1) ∙ q .1)
+          | inr q ↦ absurd (omega (arith, p .0, p .1, q .0, q .1))
+        ]
+        | inr p ↦ elim (ends-cases (edge-at list j) u w y) [
+          | inl q ↦ absurd (omega (arith, p .0, p .1, q .0, q .1))
+          | inr q ↦ (sym (p .1) ∙ q .1, sym (p .0) ∙ q .0)
+        ]
+      ]
 
   pub place-one : (i j u w : ℕ) → i < length list → j < length list → ends (edge-at list i) u w ≡ true → ends (edge-at list j) u w ≡ true → i ≡ j
   place-one i j u w l m x y =
       let s = same-ends i j u w l m x y in
       elim (cases-order i j) [
-        inl e ↦ e
-      | inr o ↦ elim o [
-          inl h ↦ absurd (before-irr (edge-at list i) (edge-at list j) (s .0) (s .1) (later i j h m))
-        | inr h ↦ absurd (before-irr (edge-at list j) (edge-at list i) (sym (s .0)) (sym (s .1)) (later j i h l)) ] ]
+        | inl e ↦ e
+        | inr o ↦ elim o [
+          | inl h ↦ absurd (before-irr (edge-at list i) (edge-at list j) (s .0) (s .1) (later i j h m))
+          | inr h ↦ absurd (before-irr (edge-at list j) (edge-at list i) (sym (s .0)) (sym (s .1)) (later j i h l))
+        ]
+      ]
 
 -- a pair that the list joins has a place
 pub joins-place : (es : List Edge) (a b : ℕ) → joins es a b ≡ true → (i : ℕ) × (i < length es) × (ends (edge-at es i) a b ≡ true)
@@ -148,8 +159,9 @@ unfolding joins
 joins-place [] a b y = absurd (both-ways false refl y)
 joins-place (e ∷ es) a b y =
     elim (or-cases (ends e a b) (joins es a b) y) [
-      inl h ↦ (0, omega arith, h)
-    | inr h ↦ let r = joins-place es a b h in (suc (r .0), omega (arith, r .1), r .2) ]
+      | inl h ↦ (0, omega arith, h)
+      | inr h ↦ let r = joins-place es a b h in (suc (r .0), omega (arith, r .1), r .2)
+    ]
 
 pub place-joins : (es : List Edge) (a b i : ℕ) → i < length es → ends (edge-at es i) a b ≡ true → joins es a b ≡ true
 unfolding joins

@@ -32,14 +32,18 @@ pub record Raised (seen : ℕ → Bool) (n from to : ℕ) (before after : List �
 pub raised-none : (seen : ℕ → Bool) (n from to : ℕ) (before : List ℕ) → ((w : ℕ) → seen w ≡ false) → Raised seen n from to before before 0
 unfolding fresh
 raised-none seen n from to before f =
-    record { mark = λ w. let h = f w in grind (arith, tells)
-    ; total-is = sym (count-empty (fresh seen from before) n (λ w l. and-left (seen w) (eqb (getD before w 0) from) (f w))) }
+    record {
+      mark = λ w. let h = f w in grind (arith, tells);
+      total-is = sym (count-empty (fresh seen from before) n (λ w l. and-left (seen w) (eqb (getD before w 0) from) (f w)));
+    }
 
 pub raised-same : (seen now : ℕ → Bool) (n from to : ℕ) (before after : List ℕ) (total : ℕ) → ((w : ℕ) → now w ≡ seen w) → Raised seen n from to before after total → Raised now n from to before after total
 unfolding fresh
 raised-same seen now n from to before after total e r =
-    record { mark = λ w. r .mark w ∙ ap (λ b. cond (ltb w n && (b && eqb (getD before w 0) from)) to (getD before w 0)) (sym (e w))
-    ; total-is = r .total-is ∙ count-same (fresh seen from before) (fresh now from before) n (λ w l. ap (λ b. b && eqb (getD before w 0) from) (sym (e w))) }
+    record {
+      mark = λ w. r .mark w ∙ ap (λ b. cond (ltb w n && (b && eqb (getD before w 0) from)) to (getD before w 0)) (sym (e w));
+      total-is = r .total-is ∙ count-same (fresh seen from before) (fresh now from before) n (λ w l. ap (λ b. b && eqb (getD before w 0) from) (sym (e w)));
+    }
 
 module _ (seen now : ℕ → Bool) (n from to : ℕ) (before after : List ℕ) (total x : ℕ) (e : (w : ℕ) → now w ≡ (seen w || eqb x w)) (ne : from ≡ to → ⊥) (r : Raised seen n from to before after total) where
   other : (w : ℕ) → (w ≡ x → ⊥) → fresh now from before w ≡ fresh seen from before w
@@ -54,8 +58,10 @@ module _ (seen now : ℕ → Bool) (n from to : ℕ) (before after : List ℕ) (
   pub raised-no : x < n → (getD after x 0 ≡ from → ⊥) → Raised now n from to before after total
   raised-no l d =
       let same : (w : ℕ) → fresh now from before w ≡ fresh seen from before w = λ w. elim (cases-eq w x) [ inl i ↦ ap (fresh now from before) i ∙ here l d ∙ ap (fresh seen from before) (sym i) | inr i ↦ other w i ] in
-      record { mark = λ w. r .mark w ∙ ap (λ b. cond (ltb w n && b) to (getD before w 0)) (sym (same w))
-      ; total-is = r .total-is ∙ sym (count-same (fresh now from before) (fresh seen from before) n (λ w l. same w)) }
+      record {
+        mark = λ w. r .mark w ∙ ap (λ b. cond (ltb w n && b) to (getD before w 0)) (sym (same w));
+        total-is = r .total-is ∙ sym (count-same (fresh now from before) (fresh seen from before) n (λ w l. same w));
+      }
 
   was : x < n → getD after x 0 ≡ from → (fresh seen from before x ≡ false) × (getD before x 0 ≡ from)
   was l a =
@@ -72,17 +78,21 @@ module _ (seen now : ℕ → Bool) (n from to : ℕ) (before after : List ℕ) (
       let v = was l a in
       let t = turned (v .1) in
       let c = count-less (fresh now from before) (fresh seen from before) x n l t (v .0) other in
-      record { mark = λ w. elim (cases-eq w x) [
-          inl i ↦ let g = getD-set-same after x to 0 (omega arith) in
-            ap (λ k. getD (set after x to) k 0) i ∙ g ∙ sym (ap (λ k. cond (ltb k n && fresh now from before k) to (getD before k 0)) i ∙ ap (λ b. cond b to (getD before x 0)) (and-from (ltb x n) (fresh now from before x) (lt-ltb x n l) t))
-        | inr d ↦ getD-set-other after x w to 0 d ∙ r .mark w ∙ ap (λ b. cond (ltb w n && b) to (getD before w 0)) (sym (other w d)) ]
-      ; total-is = omega (arith, r .total-is) }
+      record {
+        mark = λ w. elim (cases-eq w x) [
+          | inl i ↦ let g = getD-set-same after x to 0 (omega arith) in
+              ap (λ k. getD (set after x to) k 0) i ∙ g ∙ sym (ap (λ k. cond (ltb k n && fresh now from before k) to (getD before k 0)) i ∙ ap (λ b. cond b to (getD before x 0)) (and-from (ltb x n) (fresh now from before x) (lt-ltb x n l) t))
+          | inr d ↦ getD-set-other after x w to 0 d ∙ r .mark w ∙ ap (λ b. cond (ltb w n && b) to (getD before w 0)) (sym (other w d))
+        ];
+        total-is = omega (arith, r .total-is);
+      }
 
 pub raised-all : (seen all : ℕ → Bool) (n from to : ℕ) (before after : List ℕ) (total : ℕ) → ((w : ℕ) → seen w ≡ all w) → Raised seen n from to before after total → ((w : ℕ) → getD after w 0 ≡ cond (ltb w n && (all w && eqb (getD before w 0) from)) to (getD before w 0)) × (total ≡ count (λ w. all w && eqb (getD before w 0) from) n)
 unfolding fresh
-raised-all seen all n from to before after total e r =
-    ( λ w. r .mark w ∙ ap (λ b. cond (ltb w n && (b && eqb (getD before w 0) from)) to (getD before w 0)) (e w)
-    , r .total-is ∙ count-same (fresh seen from before) (λ w. all w && eqb (getD before w 0) from) n (λ w l. ap (λ b. b && eqb (getD before w 0) from) (e w)) )
+raised-all seen all n from to before after total e r = (
+  λ w. r .mark w ∙ ap (λ b. cond (ltb w n && (b && eqb (getD before w 0) from)) to (getD before w 0)) (e w),
+  r .total-is ∙ count-same (fresh seen from before) (λ w. all w && eqb (getD before w 0) from) n (λ w l. ap (λ b. b && eqb (getD before w 0) from) (e w)),
+)
 
 -- the living edges at u whose far end has the mark v, from place cur on
 unfoldable pub picked : List Edge → (ℕ → Bool) → List ℕ → ℕ → ℕ → ℕ → ℕ → Bool
@@ -92,10 +102,12 @@ pub picked-none : (list : List Edge) (s : ℕ → Bool) (marks : List ℕ) (v u 
 unfolding picked over
 picked-none list s marks v u cur f e c =
     elim (cases-bool (s c)) [
-      inr y ↦ grind (arith, tells)
-    | inl y ↦ elim (cases-lt c cur) [
-        inl l ↦ let h = lt-ltb c cur l in grind (arith, tells)
-      | inr l ↦ let h = last-gap list u (length list) c (omega arith) (f c y) in grind (arith, tells) ] ]
+      | inr y ↦ grind (arith, tells)
+      | inl y ↦ elim (cases-lt c cur) [
+        | inl l ↦ let h = lt-ltb c cur l in grind (arith, tells)
+        | inr l ↦ let h = last-gap list u (length list) c (omega arith) (f c y) in grind (arith, tells)
+      ]
+    ]
 
 pub picked-out : (list : List Edge) (s : ℕ → Bool) (marks : List ℕ) (v u cur : ℕ) → 0 < cur → picked list s marks v u cur (cur - 1) ≡ false
 unfolding picked over
@@ -106,11 +118,13 @@ unfolding picked over
 picked-step list s marks v u cur next pos nx c ne =
     let low = last-le list u (cur - 1) in
     elim (cases-lt c (cur - 1)) [
-      inl l ↦ let a = lt-ltb c cur (omega arith) in
-        elim (cases-lt c next) [
-          inl m ↦ let b = lt-ltb c next m in grind (arith, tells)
-        | inr m ↦ let h = last-gap list u (cur - 1) c (omega arith) l in grind (arith, tells) ]
-    | inr l ↦ let a = le-ltb c cur (omega arith) in let b = le-ltb c next (omega arith) in grind (arith, tells) ]
+      | inl l ↦ let a = lt-ltb c cur (omega arith) in
+          elim (cases-lt c next) [
+            | inl m ↦ let b = lt-ltb c next m in grind (arith, tells)
+            | inr m ↦ let h = last-gap list u (cur - 1) c (omega arith) l in grind (arith, tells)
+          ]
+      | inr l ↦ let a = le-ltb c cur (omega arith) in let b = le-ltb c next (omega arith) in grind (arith, tells)
+    ]
 
 picked-here : (list : List Edge) (s : ℕ → Bool) (marks : List ℕ) (v u cur next x : ℕ) → Walk list u cur → 0 < cur → next ≡ last-at list u (cur - 1) → x ≡ far (edge-at list (cur - 1)) u → s (cur - 1) ≡ true → getD marks x 0 ≡ v → picked list s marks v u next (cur - 1) ≡ true
 unfolding picked over
@@ -124,20 +138,23 @@ picked-not : (list : List Edge) (s : ℕ → Bool) (marks : List ℕ) (v u cur n
 unfolding picked over
 picked-not list s marks v u cur next x ex d =
     elim (cases-bool (s (cur - 1))) [
-      inr y ↦ grind (arith, tells)
-    | inl y ↦ let q = ne-eqb (getD marks (far (edge-at list (cur - 1)) u) 0) v (λ z. d y (ap (λ i. getD marks i 0) ex ∙ z)) in grind (arith, tells) ]
+      | inr y ↦ grind (arith, tells)
+      | inl y ↦ let q = ne-eqb (getD marks (far (edge-at list (cur - 1)) u) 0) v (λ z. d y (ap (λ i. getD marks i 0) ex ∙ z)) in grind (arith, tells)
+    ]
 
 pub picked-yes : (list : List Edge) (s : ℕ → Bool) (marks : List ℕ) (v u cur next x : ℕ) → Walk list u cur → 0 < cur → next ≡ last-at list u (cur - 1) → x ≡ far (edge-at list (cur - 1)) u → s (cur - 1) ≡ true → getD marks x 0 ≡ v → (c : ℕ) → picked list s marks v u next c ≡ (picked list s marks v u cur c || eqb (cur - 1) c)
 picked-yes list s marks v u cur next x wk pos nx ex y m c =
     elim (cases-eq c (cur - 1)) [
-      inl i ↦ let q = eq-eqb (cur - 1) c (sym i) in let h = ap (picked list s marks v u next) i ∙ picked-here list s marks v u cur next x wk pos nx ex y m in grind (arith, tells)
-    | inr i ↦ let q = ne-eqb (cur - 1) c (λ z. i (sym z)) in let h = picked-step list s marks v u cur next pos nx c i in grind (arith, tells) ]
+      | inl i ↦ let q = eq-eqb (cur - 1) c (sym i) in let h = ap (picked list s marks v u next) i ∙ picked-here list s marks v u cur next x wk pos nx ex y m in grind (arith, tells)
+      | inr i ↦ let q = ne-eqb (cur - 1) c (λ z. i (sym z)) in let h = picked-step list s marks v u cur next pos nx c i in grind (arith, tells)
+    ]
 
 pub picked-no : (list : List Edge) (s : ℕ → Bool) (marks : List ℕ) (v u cur next x : ℕ) → 0 < cur → next ≡ last-at list u (cur - 1) → x ≡ far (edge-at list (cur - 1)) u → (s (cur - 1) ≡ true → getD marks x 0 ≡ v → ⊥) → (c : ℕ) → picked list s marks v u next c ≡ picked list s marks v u cur c
 picked-no list s marks v u cur next x pos nx ex d c =
     elim (cases-eq c (cur - 1)) [
-      inl i ↦ ap (picked list s marks v u next) i ∙ picked-not list s marks v u cur next x ex d ∙ sym (picked-out list s marks v u cur pos) ∙ ap (picked list s marks v u cur) (sym i)
-    | inr i ↦ picked-step list s marks v u cur next pos nx c i ]
+      | inl i ↦ ap (picked list s marks v u next) i ∙ picked-not list s marks v u cur next x ex d ∙ sym (picked-out list s marks v u cur pos) ∙ ap (picked list s marks v u cur) (sym i)
+      | inr i ↦ picked-step list s marks v u cur next pos nx c i
+    ]
 
 pub picked-all : (list : List Edge) (s : ℕ → Bool) (marks : List ℕ) (v u c : ℕ) → picked list s marks v u 0 c ≡ (s c && (touches (edge-at list c) u && eqb (getD marks (far (edge-at list c) u) 0) v))
 unfolding picked over
@@ -191,9 +208,9 @@ chaining-more n list table j va vb small r few l c ea eb =
       heads = λ u h. elim (cases-eq u b) [
         | inl e ↦ set4-b table (1024 + j) va (17408 + j) vb a b (j + 1) u (omega (arith, c .long)) e ∙ sym (last-more-yes list u j (or-right (eqb a u) (eqb b u) (eq-eqb b u (sym e))))
         | inr nb ↦ elim (cases-eq u a) [
-            | inl e ↦ set4-a table (1024 + j) va (17408 + j) vb a b (j + 1) u (omega (arith, c .long)) e (omega arith) ∙ sym (last-more-yes list u j (or-left (eqb a u) (eqb b u) (eq-eqb a u (sym e))))
-            | inr na ↦ set4-other table (1024 + j) va (17408 + j) vb a b (j + 1) u (omega arith) (omega arith) na nb ∙ c .heads u h ∙ sym (last-more-no list u j (or-from′ (eqb a u) (eqb b u) (ne-eqb a u (λ z. na (sym z))) (ne-eqb b u (λ z. nb (sym z)))))
-          ]
+          | inl e ↦ set4-a table (1024 + j) va (17408 + j) vb a b (j + 1) u (omega (arith, c .long)) e (omega arith) ∙ sym (last-more-yes list u j (or-left (eqb a u) (eqb b u) (eq-eqb a u (sym e))))
+          | inr na ↦ set4-other table (1024 + j) va (17408 + j) vb a b (j + 1) u (omega arith) (omega arith) na nb ∙ c .heads u h ∙ sym (last-more-no list u j (or-from′ (eqb a u) (eqb b u) (ne-eqb a u (λ z. na (sym z))) (ne-eqb b u (λ z. nb (sym z)))))
+        ]
       ];
       firsts = λ i h. elim (cases-eq i j) [
         | inl e ↦ set4-p table (1024 + j) va (17408 + j) vb a b (j + 1) (1024 + i) (omega (arith, c .long)) (omega arith) (omega arith) (omega arith) (omega arith) ∙ va-is ∙ ap (λ k. last-at list (edge-at list k .a) k) (sym e)
@@ -232,19 +249,21 @@ module _ (n : ℕ) (list : List Edge) (table : List ℕ) (u cur : ℕ) (ch : Cha
       let a = stand-smaller in
       let b = below n list (ch .listing .rising) (cur - 1) stand-within in
       elim (cases-bool (eqb (edge-at list (cur - 1) .a) u)) [
-        inl y ↦ omega (arith, e, cond-true (eqb (edge-at list (cur - 1) .a) u) (edge-at list (cur - 1) .b) (edge-at list (cur - 1) .a) y)
-      | inr y ↦ omega (arith, e, cond-false (eqb (edge-at list (cur - 1) .a) u) (edge-at list (cur - 1) .b) (edge-at list (cur - 1) .a) y) ]
+        | inl y ↦ omega (arith, e, cond-true (eqb (edge-at list (cur - 1) .a) u) (edge-at list (cur - 1) .b) (edge-at list (cur - 1) .a) y)
+        | inr y ↦ omega (arith, e, cond-false (eqb (edge-at list (cur - 1) .a) u) (edge-at list (cur - 1) .b) (edge-at list (cur - 1) .a) y)
+      ]
 
   pub stand-next : (r : ℕ) → r ≡ cond (eqb (edge-at list (cur - 1) .a) u) (getD table (1024 + (cur - 1)) 0) (getD table (17408 + (cur - 1)) 0) → r ≡ last-at list u (cur - 1)
   stand-next r e =
       let one = getD table (1024 + (cur - 1)) 0 in
       let two = getD table (17408 + (cur - 1)) 0 in
       elim (cases-bool (eqb (edge-at list (cur - 1) .a) u)) [
-        inl y ↦ e ∙ cond-true (eqb (edge-at list (cur - 1) .a) u) one two y ∙ ch .firsts (cur - 1) stand-within ∙ ap (λ v. last-at list v (cur - 1)) (eqb-true (edge-at list (cur - 1) .a) u y)
-      | inr y ↦ e ∙ cond-false (eqb (edge-at list (cur - 1) .a) u) one two y ∙ ch .seconds (cur - 1) stand-within ∙ ap (λ v. last-at list v (cur - 1)) (elim (or-cases (eqb (edge-at list (cur - 1) .a) u) (eqb (edge-at list (cur - 1) .b) u) (walk-here list u cur wk pos)) [
+        | inl y ↦ e ∙ cond-true (eqb (edge-at list (cur - 1) .a) u) one two y ∙ ch .firsts (cur - 1) stand-within ∙ ap (λ v. last-at list v (cur - 1)) (eqb-true (edge-at list (cur - 1) .a) u y)
+        | inr y ↦ e ∙ cond-false (eqb (edge-at list (cur - 1) .a) u) one two y ∙ ch .seconds (cur - 1) stand-within ∙ ap (λ v. last-at list v (cur - 1)) (elim (or-cases (eqb (edge-at list (cur - 1) .a) u) (eqb (edge-at list (cur - 1) .b) u) (walk-here list u cur wk pos)) [
           | inl z ↦ absurd (both-ways (eqb (edge-at list (cur - 1) .a) u) y z)
           | inr z ↦ eqb-true (edge-at list (cur - 1) .b) u z
-        ]) ]
+        ])
+      ]
 
   pub stand-less : (r : ℕ) → r ≡ cond (eqb (edge-at list (cur - 1) .a) u) (getD table (1024 + (cur - 1)) 0) (getD table (17408 + (cur - 1)) 0) → r < cur
   stand-less r e = omega (arith, stand-next r e, last-le list u (cur - 1))

@@ -10,7 +10,10 @@ ghost use Rattle.items.specs.Marks.{Wiped};
 ghost use Rattle.cohesion.specs.Common.{linked, common, Listing, Chained};
 use graph::edge::Edge;
 use items::Peeled;
-use walks::{chain, is_listing, raise, triangles};
+use walks::chain;
+use walks::is_listing;
+use walks::raise;
+use walks::triangles;
 
 mod walks;
 
@@ -73,17 +76,38 @@ pub impl Peeled<Edge> for Below as EdgesPeeled {
         true
     }
 
-    fn support_of(&self, list: &[Edge], table: &[u16], i: usize, living: &[u8], marks: &mut [u8]) -> usize {
+    fn support_of(
+        &self,
+        list: &[Edge],
+        table: &[u16],
+        i: usize,
+        living: &[u8],
+        marks: &mut [u8],
+    ) -> usize {
         let n = self.size;
         let edge = list[i];
-        let guard = Marks { bytes: marks, size: n };
+        let guard = Marks {
+            bytes: marks,
+            size: n,
+        };
         raise(list, table, living, edge.a as usize, n, guard.bytes, 0, 1);
         raise(list, table, living, edge.b as usize, n, guard.bytes, 1, 2)
     }
 
-    fn losers(&self, list: &[Edge], table: &[u16], x: usize, living: &[u8], marks: &mut [u8], out: &mut [u16]) -> usize {
+    fn losers(
+        &self,
+        list: &[Edge],
+        table: &[u16],
+        x: usize,
+        living: &[u8],
+        marks: &mut [u8],
+        out: &mut [u16],
+    ) -> usize {
         let n = self.size;
-        let guard = Marks { bytes: marks, size: n };
+        let guard = Marks {
+            bytes: marks,
+            size: n,
+        };
         triangles(list, table, living, x, n, guard.bytes, out)
     }
 }

@@ -22,6 +22,14 @@ fn far_end(edge: Edge, u: usize) -> usize
     }
 }
 
+// Whether the edge at place e lives.
+fn lives(living: &[u8], e: usize) -> bool
+    requires { ⌜ e < length (now living) ⌝ }
+    ensures { λ r. ⌜ r ≡ eqb (getD (now (living .entry)) e 0) 1 ⌝ }
+{
+    living[e] == 1
+}
+
 // Where the table leads from the edge at place e, at its end u.
 fn before(list: &[Edge], table: &[u16], e: usize, u: usize) -> usize
     requires within { ⌜ e < length (now list) ⌝ }
@@ -37,7 +45,16 @@ fn before(list: &[Edge], table: &[u16], e: usize, u: usize) -> usize
 }
 
 // Turns the mark `from` into `to` at each vertex that a living edge joins to u, and counts them.
-pub fn raise(list: &[Edge], table: &[u16], living: &[u8], u: usize, n: usize, marks: &mut [u8], from: u8, to: u8) -> usize
+pub fn raise(
+    list: &[Edge],
+    table: &[u16],
+    living: &[u8],
+    u: usize,
+    n: usize,
+    marks: &mut [u8],
+    from: u8,
+    to: u8,
+) -> usize
     requires chained { ⌜ Chained n (now list) (now table) ⌝ }
     requires within { ⌜ u < n ⌝ }
     requires lives { ⌜ length (now list) ≤ length (now living) ⌝ }
@@ -51,7 +68,7 @@ pub fn raise(list: &[Edge], table: &[u16], living: &[u8], u: usize, n: usize, ma
     while at > 0 {
         let e = at - 1;
         let w = far_end(list[e], u);
-        if living[e] == 1 && marks[w] == from {
+        if lives(living, e) && marks[w] == from {
             marks[w] = to;
             total += 1;
         }
@@ -61,7 +78,17 @@ pub fn raise(list: &[Edge], table: &[u16], living: &[u8], u: usize, n: usize, ma
 }
 
 // Writes from `start` on the living edges at u whose far end has the mark `value`. Returns where they end.
-pub fn gather(list: &[Edge], table: &[u16], living: &[u8], u: usize, n: usize, marks: &[u8], value: u8, out: &mut [u16], start: usize) -> usize
+pub fn gather(
+    list: &[Edge],
+    table: &[u16],
+    living: &[u8],
+    u: usize,
+    n: usize,
+    marks: &[u8],
+    value: u8,
+    out: &mut [u16],
+    start: usize,
+) -> usize
     requires chained { ⌜ Chained n (now list) (now table) ⌝ }
     requires within { ⌜ u < n ⌝ }
     requires lives { ⌜ length (now list) ≤ length (now living) ⌝ }
@@ -76,7 +103,7 @@ pub fn gather(list: &[Edge], table: &[u16], living: &[u8], u: usize, n: usize, m
     while at > 0 {
         let e = at - 1;
         let w = far_end(list[e], u);
-        if living[e] == 1 && marks[w] == value {
+        if lives(living, e) && marks[w] == value {
             out[len] = e as u16;
             len += 1;
         }
@@ -86,7 +113,15 @@ pub fn gather(list: &[Edge], table: &[u16], living: &[u8], u: usize, n: usize, m
 }
 
 // Writes the living edges that make a triangle with two living edges, one of them the edge at place x.
-pub fn triangles(list: &[Edge], table: &[u16], living: &[u8], x: usize, n: usize, marks: &mut [u8], out: &mut [u16]) -> usize
+pub fn triangles(
+    list: &[Edge],
+    table: &[u16],
+    living: &[u8],
+    x: usize,
+    n: usize,
+    marks: &mut [u8],
+    out: &mut [u16],
+) -> usize
     requires chained { ⌜ Chained n (now list) (now table) ⌝ }
     requires member { ⌜ alive (length (now list)) (now living) x ≡ true ⌝ }
     requires lives { ⌜ length (now list) ≤ length (now living) ⌝ }

@@ -31,19 +31,22 @@ pub core-from : (g : Graph) (t : ℕ) (living mid living′ taken taken′ : Lis
 unfolding without
 core-from g t living mid living′ taken taken′ len f p =
     let e = filled-alive g living mid f in
-    record { fits = p .fits
-    ; peels = peels-same (inside g) (inside-mono g) t (alive (g .size) mid) (held g) (take len taken′) e (p .peels)
-    ; bytes = λ c l. let a = p .cleared c in let b = f c in grind (arith, tells)
-    ; core = largest-of-same (inside g) t (alive (g .size) mid) (held g) (alive (g .size) living′) e (p .largest)
-    ; beyond = λ c l. let a = p .cleared c in let b = f c in
-        let h : has (take len taken′) c ≡ true → c < g .size = λ y. alive-below (g .size) mid c (peels-member (inside g) t (alive (g .size) mid) (take len taken′) c (p .peels) y) in
-        let z : has (take len taken′) c ≡ false = elim (cases-bool (has (take len taken′) c)) [ inl y ↦ absurd (omega (arith, h y)) | inr y ↦ y ] in
-        grind (arith, tells)
-    ; rest = p .rest }
+    record {
+      fits = p .fits;
+      peels = peels-same (inside g) (inside-mono g) t (alive (g .size) mid) (held g) (take len taken′) e (p .peels);
+      bytes = λ c l. let a = p .cleared c in let b = f c in grind (arith, tells);
+      core = largest-of-same (inside g) t (alive (g .size) mid) (held g) (alive (g .size) living′) e (p .largest);
+      beyond = λ c l. let a = p .cleared c in let b = f c in
+          let h : has (take len taken′) c ≡ true → c < g .size = λ y. alive-below (g .size) mid c (peels-member (inside g) t (alive (g .size) mid) (take len taken′) c (p .peels) y) in
+          let z : has (take len taken′) c ≡ false = elim (cases-bool (has (take len taken′) c)) [ inl y ↦ absurd (omega (arith, h y)) | inr y ↦ y ] in
+          grind (arith, tells);
+      rest = p .rest;
+    }
 
 -- with room enough peeling vertices is not refused
 pub never-refused : (n living marks taken : ℕ) (x : Refusal) → n < 1025 → n ≤ living → n ≤ taken → Peel-refused n 0 (Unit {0}) living marks taken x → ⊥
 never-refused n living marks taken x s l t h =
     elim h [
-      inl a ↦ elim a [ inl b ↦ omega (arith, b .1) | inr b ↦ elim (b .2) [ inl d ↦ omega arith | inr d ↦ elim d [ inl e ↦ omega arith | inr e ↦ omega arith ] ] ]
-    | inr a ↦ a .2 tt ]
+      | inl a ↦ elim a [ inl b ↦ omega (arith, b .1) | inr b ↦ elim (b .2) [ inl d ↦ omega arith | inr d ↦ elim d [ inl e ↦ omega arith | inr e ↦ omega arith ] ] ]
+      | inr a ↦ a .2 tt
+    ]

@@ -26,7 +26,12 @@ fn fill_held<S: Source>(source: &S, living: &mut [u8])
 
 /// The core of the graph at `least`: takes out vertices with fewer living neighbours until there is none. The bytes
 /// of those that stay are 1; those taken out stand in `taken`, in their order. Returns how many were taken out.
-pub fn core<S: Listed>(source: &S, least: usize, living: &mut [u8], taken: &mut [u16]) -> Result<usize, Refusal>
+pub fn core<S: Listed>(
+    source: &S,
+    least: usize,
+    living: &mut [u8],
+    taken: &mut [u16],
+) -> Result<usize, Refusal>
     ensures { λ r. ⌜ Cases r (λ len. Core-in (S·Source .graph (now (source .entry))) least (now (living .entry)) (now (living .exit)) (now (taken .entry)) (now (taken .exit)) len) (λ x. Core-refused (S·Source .graph (now (source .entry))) (length (now (living .entry))) (length (now (taken .entry))) x × (now (living .exit) ≡ now (living .entry)) × (now (taken .exit) ≡ now (taken .entry))) ⌝ }
 {
     let n = source.size();

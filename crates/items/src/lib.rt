@@ -45,7 +45,14 @@ pub trait Peeled<T> {
         ensures test { λ r. ⌜ (r ≡ false → proper (now (self .entry)) (now (list .entry)) → ⊥) ⌝ };
 
     /// The support of an item among the living ones.
-    fn support_of(&self, list: &[T], table: &[u16], i: usize, living: &[u8], marks: &mut [u8]) -> usize
+    fn support_of(
+        &self,
+        list: &[T],
+        table: &[u16],
+        i: usize,
+        living: &[u8],
+        marks: &mut [u8],
+    ) -> usize
         requires ready { ⌜ indexed (now self) (now list) (now table) ⌝ }
         requires within { ⌜ i < items (now self) (now list) ⌝ }
         requires lives { ⌜ items (now self) (now list) ≤ length (now living) ⌝ }
@@ -55,7 +62,15 @@ pub trait Peeled<T> {
         ensures same { λ _. ⌜ Same (now (marks .entry)) (now (marks .exit)) ⌝ };
 
     /// Writes the living items that lose a support when x is taken out. Returns how many they are.
-    fn losers(&self, list: &[T], table: &[u16], x: usize, living: &[u8], marks: &mut [u8], out: &mut [u16]) -> usize
+    fn losers(
+        &self,
+        list: &[T],
+        table: &[u16],
+        x: usize,
+        living: &[u8],
+        marks: &mut [u8],
+        out: &mut [u16],
+    ) -> usize
         requires ready { ⌜ indexed (now self) (now list) (now table) ⌝ }
         requires member { ⌜ alive (items (now self) (now list)) (now living) x ≡ true ⌝ }
         requires lives { ⌜ items (now self) (now list) ≤ length (now living) ⌝ }

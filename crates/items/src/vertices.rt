@@ -32,7 +32,14 @@ pub impl<S: Listed> Peeled<Vertex> for S as VerticesPeeled {
         true
     }
 
-    fn support_of(&self, _list: &[Vertex], _table: &[u16], i: usize, living: &[u8], _marks: &mut [u8]) -> usize {
+    fn support_of(
+        &self,
+        _list: &[Vertex],
+        _table: &[u16],
+        i: usize,
+        living: &[u8],
+        _marks: &mut [u8],
+    ) -> usize {
         let mut total = 0;
         for j in 0..self.degree(i) {
             if let Some(b) = self.neighbour(i, j) {
@@ -44,7 +51,15 @@ pub impl<S: Listed> Peeled<Vertex> for S as VerticesPeeled {
         total
     }
 
-    fn losers(&self, _list: &[Vertex], _table: &[u16], x: usize, living: &[u8], _marks: &mut [u8], out: &mut [u16]) -> usize {
+    fn losers(
+        &self,
+        _list: &[Vertex],
+        _table: &[u16],
+        x: usize,
+        living: &[u8],
+        _marks: &mut [u8],
+        out: &mut [u16],
+    ) -> usize {
         let mut len = 0;
         for j in 0..self.degree(x) {
             if let Some(b) = self.neighbour(x, j) {

@@ -10,7 +10,12 @@ ghost use Rattle.items.specs.Marks.{Clear, Same, Wiped};
 ghost use Rattle.peeling.specs.Peeling.{Fits, Too-large, Peel-refused, Tables};
 use graph::refusal::Refusal;
 use items::Peeled;
-use tables::{first_weak, lower, lowest, push_fallen, revive, wipe};
+use tables::first_weak;
+use tables::lower;
+use tables::lowest;
+use tables::push_fallen;
+use tables::revive;
+use tables::wipe;
 
 mod tables;
 
@@ -18,7 +23,14 @@ mod tables;
 pub const MOST: usize = 16384;
 
 // Counts the support of each living item.
-fn count_all<T, P: Peeled<T>>(pool: &P, list: &[T], table: &[u16], living: &[u8], marks: &mut [u8], counts: &mut [u16])
+fn count_all<T, P: Peeled<T>>(
+    pool: &P,
+    list: &[T],
+    table: &[u16],
+    living: &[u8],
+    marks: &mut [u8],
+    counts: &mut [u16],
+)
     requires ready { ⌜ P·Peeled .indexed (now pool) (now list) (now table) ⌝ }
     requires lives { ⌜ P·Peeled .items (now pool) (now list) ≤ length (now living) ⌝ }
     requires counted { ⌜ P·Peeled .items (now pool) (now list) ≤ length (now counts) ⌝ }
@@ -35,7 +47,17 @@ fn count_all<T, P: Peeled<T>>(pool: &P, list: &[T], table: &[u16], living: &[u8]
 
 // Takes out items with a support below `least` until none is left. Whoever falls below it is queued in `taken`
 // behind those that are taken out already. Returns how many were taken out.
-fn drain<T, P: Peeled<T>>(pool: &P, list: &[T], table: &[u16], least: usize, living: &mut [u8], marks: &mut [u8], counts: &mut [u16], taken: &mut [u16], out: &mut [u16]) -> usize
+fn drain<T, P: Peeled<T>>(
+    pool: &P,
+    list: &[T],
+    table: &[u16],
+    least: usize,
+    living: &mut [u8],
+    marks: &mut [u8],
+    counts: &mut [u16],
+    taken: &mut [u16],
+    out: &mut [u16],
+) -> usize
     requires ready { ⌜ P·Peeled .indexed (now pool) (now list) (now table) ⌝ }
     requires tables { ⌜ Tables (P·Peeled .items (now pool) (now list)) (length (now living)) (length (now counts)) (length (now taken)) (length (now out)) ⌝ }
     requires clear { ⌜ Clear (P·Peeled .room (now pool) (now list)) (now marks) ⌝ }
@@ -73,7 +95,14 @@ fn refusal(n: usize, room: usize, living: usize, marks: usize, taken: usize) -> 
 
 /// Takes out items with a support below `least` until no living item has one. The items whose byte in `living` is
 /// 1 live; what is taken out gets 0, and is written to `taken` in its order. Returns how many were taken out.
-pub fn peel<T, P: Peeled<T>>(pool: &P, list: &[T], least: usize, living: &mut [u8], marks: &mut [u8], taken: &mut [u16]) -> Result<usize, Refusal>
+pub fn peel<T, P: Peeled<T>>(
+    pool: &P,
+    list: &[T],
+    least: usize,
+    living: &mut [u8],
+    marks: &mut [u8],
+    taken: &mut [u16],
+) -> Result<usize, Refusal>
     ensures cases { λ r. ⌜ Cases r (λ len. Peeled-in (P·Peeled .support (now (pool .entry)) (now (list .entry))) (P·Peeled .items (now (pool .entry)) (now (list .entry))) least (now (living .entry)) (now (living .exit)) (now (taken .entry)) (now (taken .exit)) len × Wiped (P·Peeled .room (now (pool .entry)) (now (list .entry))) (now (marks .entry)) (now (marks .exit))) (λ _. (now (living .exit) ≡ now (living .entry)) × (now (marks .exit) ≡ now (marks .entry)) × (now (taken .exit) ≡ now (taken .entry))) ⌝ }
     ensures refused { λ r. ⌜ Cases r (λ _. Fits (P·Peeled .items (now (pool .entry)) (now (list .entry))) (P·Peeled .room (now (pool .entry)) (now (list .entry))) (length (now (living .entry))) (length (now (marks .entry))) (length (now (taken .entry))) × P·Peeled .proper (now (pool .entry)) (now (list .entry))) (λ x. Peel-refused (P·Peeled .items (now (pool .entry)) (now (list .entry))) (P·Peeled .room (now (pool .entry)) (now (list .entry))) (P·Peeled .proper (now (pool .entry)) (now (list .entry))) (length (now (living .entry))) (length (now (marks .entry))) (length (now (taken .entry))) x) ⌝ }
 {
@@ -90,12 +119,31 @@ pub fn peel<T, P: Peeled<T>>(pool: &P, list: &[T], least: usize, living: &mut [u
     let mut out = [0u16; 16384];
     wipe(marks, room);
     count_all(pool, list, &table, living, marks, &mut counts);
-    Ok(drain(pool, list, &table, least, living, marks, &mut counts, taken, &mut out))
+    Ok(drain(
+        pool,
+        list,
+        &table,
+        least,
+        living,
+        marks,
+        &mut counts,
+        taken,
+        &mut out,
+    ))
 }
 
 // Peels at ever higher thresholds until nothing is left, and puts back what went last. Returns the threshold at
 // which that stayed.
-fn descend<T, P: Peeled<T>>(pool: &P, list: &[T], table: &[u16], living: &mut [u8], marks: &mut [u8], counts: &mut [u16], taken: &mut [u16], out: &mut [u16]) -> usize
+fn descend<T, P: Peeled<T>>(
+    pool: &P,
+    list: &[T],
+    table: &[u16],
+    living: &mut [u8],
+    marks: &mut [u8],
+    counts: &mut [u16],
+    taken: &mut [u16],
+    out: &mut [u16],
+) -> usize
     requires ready { ⌜ P·Peeled .indexed (now pool) (now list) (now table) ⌝ }
     requires tables { ⌜ Tables (P·Peeled .items (now pool) (now list)) (length (now living)) (length (now counts)) (length (now taken)) (length (now out)) ⌝ }
     requires clear { ⌜ Clear (P·Peeled .room (now pool) (now list)) (now marks) ⌝ }
@@ -115,7 +163,12 @@ fn descend<T, P: Peeled<T>>(pool: &P, list: &[T], table: &[u16], living: &mut [u
 }
 
 /// The largest threshold at which an item stays, and in `living` what stays at it: 0 where no item lives.
-pub fn deepest<T, P: Peeled<T>>(pool: &P, list: &[T], living: &mut [u8], marks: &mut [u8]) -> Result<usize, Refusal>
+pub fn deepest<T, P: Peeled<T>>(
+    pool: &P,
+    list: &[T],
+    living: &mut [u8],
+    marks: &mut [u8],
+) -> Result<usize, Refusal>
     ensures cases { λ r. ⌜ Cases r (λ k. Deepest-in (P·Peeled .support (now (pool .entry)) (now (list .entry))) (P·Peeled .items (now (pool .entry)) (now (list .entry))) (now (living .entry)) (now (living .exit)) k × Wiped (P·Peeled .room (now (pool .entry)) (now (list .entry))) (now (marks .entry)) (now (marks .exit))) (λ _. (now (living .exit) ≡ now (living .entry)) × (now (marks .exit) ≡ now (marks .entry))) ⌝ }
     ensures refused { λ r. ⌜ Cases r (λ _. Fits (P·Peeled .items (now (pool .entry)) (now (list .entry))) (P·Peeled .room (now (pool .entry)) (now (list .entry))) (length (now (living .entry))) (length (now (marks .entry))) 16384 × P·Peeled .proper (now (pool .entry)) (now (list .entry))) (λ x. Peel-refused (P·Peeled .items (now (pool .entry)) (now (list .entry))) (P·Peeled .room (now (pool .entry)) (now (list .entry))) (P·Peeled .proper (now (pool .entry)) (now (list .entry))) (length (now (living .entry))) (length (now (marks .entry))) 16384 x) ⌝ }
 {
@@ -133,5 +186,14 @@ pub fn deepest<T, P: Peeled<T>>(pool: &P, list: &[T], living: &mut [u8], marks: 
     let mut out = [0u16; 16384];
     wipe(marks, room);
     count_all(pool, list, &table, living, marks, &mut counts);
-    Ok(descend(pool, list, &table, living, marks, &mut counts, &mut taken, &mut out))
+    Ok(descend(
+        pool,
+        list,
+        &table,
+        living,
+        marks,
+        &mut counts,
+        &mut taken,
+        &mut out,
+    ))
 }

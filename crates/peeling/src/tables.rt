@@ -53,7 +53,15 @@ pub fn lower(out: &[u16], lost: usize, n: usize, counts: &mut [u16])
 }
 
 // Queues those of the first `lost` items of `out` that have just fallen below `least`.
-pub fn push_fallen(out: &[u16], lost: usize, n: usize, counts: &[u16], least: usize, taken: &mut [u16], tail: usize) -> usize
+pub fn push_fallen(
+    out: &[u16],
+    lost: usize,
+    n: usize,
+    counts: &[u16],
+    least: usize,
+    taken: &mut [u16],
+    tail: usize,
+) -> usize
     requires fits { ⌜ lost ≤ length (now out) ⌝ }
     requires many { ⌜ count (has (take lost (now out))) n ≡ lost ⌝ }
     requires within { ⌜ ((c : ℕ) → has (take lost (now out)) c ≡ true → c < n) ⌝ }

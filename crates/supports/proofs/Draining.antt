@@ -22,12 +22,14 @@ pub alive-set : (n : ℕ) (living : List ℕ) (x : ℕ) → n ≤ length living 
 unfolding alive but
 alive-set n living x l c =
     elim (cases-eq c x) [
-      inl e ↦ let q = eq-eqb c x e in
-        elim (cases-lt x n) [
-          inl m ↦ let g = getD-set-same living x 0 0 (omega arith) in
-            let h = ap (λ (v : ℕ). getD (set living x 0) v 0) e in grind (arith, tells)
-        | inr m ↦ grind (arith, tells) ]
-    | inr ne ↦ let g = getD-set-other living x c 0 0 ne in let q = ne-eqb c x ne in grind (arith, tells) ]
+      | inl e ↦ let q = eq-eqb c x e in
+          elim (cases-lt x n) [
+            | inl m ↦ let g = getD-set-same living x 0 0 (omega arith) in
+                let h = ap (λ (v : ℕ). getD (set living x 0) v 0) e in grind (arith, tells)
+            | inr m ↦ grind (arith, tells)
+          ]
+      | inr ne ↦ let g = getD-set-other living x c 0 0 ne in let q = ne-eqb c x ne in grind (arith, tells)
+    ]
 
 pub but-other : (s : ℕ → Bool) (x c : ℕ) → but s x c ≡ true → (s c ≡ true) × (c ≡ x → ⊥)
 unfolding but
@@ -51,10 +53,12 @@ but-same s x c ne = grind (arith, tells)
 weak-low : (a b k : ℕ) (o q r : Bool) → a ≡ b + cond o 1 0 → q ≡ ltb a k → r ≡ (q || (o && eqb (b + 1) k)) → r ≡ ltb b k
 weak-low a b k true q r e w z =
     elim (cases-lt b k) [
-      inl l ↦ elim (cases-eq (b + 1) k) [
-          inl i ↦ let u = eq-eqb (b + 1) k i in let v = lt-ltb b k l in grind (arith, tells)
-        | inr i ↦ let u = lt-ltb a k (omega arith) in let v = lt-ltb b k l in grind (arith, tells) ]
-    | inr l ↦ let u = le-ltb a k (omega arith) in let v = le-ltb b k l in let t = ne-eqb (b + 1) k (omega arith) in grind (arith, tells) ]
+      | inl l ↦ elim (cases-eq (b + 1) k) [
+        | inl i ↦ let u = eq-eqb (b + 1) k i in let v = lt-ltb b k l in grind (arith, tells)
+        | inr i ↦ let u = lt-ltb a k (omega arith) in let v = lt-ltb b k l in grind (arith, tells)
+      ]
+      | inr l ↦ let u = le-ltb a k (omega arith) in let v = le-ltb b k l in let t = ne-eqb (b + 1) k (omega arith) in grind (arith, tells)
+    ]
 weak-low a b k false q r e w z = let h : a ≡ b = omega arith in let u = ap (λ (v : ℕ). ltb v k) h in grind (arith, tells)
 
 pub record Draining (sup : (ℕ → Bool) → ℕ → ℕ) (n k : ℕ) (before living counts taken : List ℕ) (head tail : ℕ) : Type 0 where
@@ -68,13 +72,15 @@ pub record Draining (sup : (ℕ → Bool) → ℕ → ℕ) (n k : ℕ) (before l
 
 pub draining-none : (sup : (ℕ → Bool) → ℕ → ℕ) (n k : ℕ) (living counts taken : List ℕ) (tail : ℕ) → Counted sup n living counts → tail ≤ length taken → ((c : ℕ) → has (take tail taken) c ≡ (alive n living c && ltb (getD counts c 0) k)) → count (has (take tail taken)) n ≡ tail → Draining sup n k living living counts taken 0 tail
 draining-none sup n k living counts taken tail co fits w m =
-    record { behind = omega arith
-    ; peels = peels-none sup k (alive n living)
-    ; cleared = λ c. let h = has-none c in sym (cond-false (has [] c) 0 (getD living c 0) h)
-    ; counted = co
-    ; weak = λ c y. let h = w c in grind (arith, tells)
-    ; many = m
-    ; ahead = λ j l h. and-parts (alive n living (getD taken j 0)) (ltb (getD counts (getD taken j 0) 0) k) (sym (w (getD taken j 0)) ∙ sym (ap (has (take tail taken)) (getD-take tail taken j 0 h)) ∙ has-at (take tail taken) j (omega (arith, length-take-le tail taken fits))) .0 }
+    record {
+      behind = omega arith;
+      peels = peels-none sup k (alive n living);
+      cleared = λ c. let h = has-none c in sym (cond-false (has [] c) 0 (getD living c 0) h);
+      counted = co;
+      weak = λ c y. let h = w c in grind (arith, tells);
+      many = m;
+      ahead = λ j l h. and-parts (alive n living (getD taken j 0)) (ltb (getD counts (getD taken j 0) 0) k) (sym (w (getD taken j 0)) ∙ sym (ap (has (take tail taken)) (getD-take tail taken j 0 h)) ∙ has-at (take tail taken) j (omega (arith, length-take-le tail taken fits))) .0;
+    }
 
 -- what lowering the counts and queueing the weak leaves
 pub record Lowered (n k : ℕ) (out counts counts′ taken taken′ : List ℕ) (tail tail′ : ℕ) : Type 0 where
@@ -139,12 +145,13 @@ module _ (sup : (ℕ → Bool) → ℕ → ℕ) (n k : ℕ) (before living count
         let h = ap (λ p. has p c) front′ ∙ has-push (take head taken) x c in
         let e = s .cleared c in
         elim (cases-eq c x) [
-          inl i ↦ let l = alive-below n living x (head-weak .member) in
-            let g = getD-set-same living x 0 0 (omega arith) in
-            let q = ap (λ v. getD (set living x 0) v 0) i in
-            let y = eq-eqb x c (sym i) in
-            grind (arith, tells)
-        | inr ne ↦ let g = getD-set-other living x c 0 0 ne in let y = ne-eqb x c (λ i. ne (sym i)) in grind (arith, tells) ]
+          | inl i ↦ let l = alive-below n living x (head-weak .member) in
+              let g = getD-set-same living x 0 0 (omega arith) in
+              let q = ap (λ v. getD (set living x 0) v 0) i in
+              let y = eq-eqb x c (sym i) in
+              grind (arith, tells)
+          | inr ne ↦ let g = getD-set-other living x c 0 0 ne in let y = ne-eqb x c (λ i. ne (sym i)) in grind (arith, tells)
+        ]
 
     living-yet : (c : ℕ) → alive n (set living x 0) c ≡ true → (alive n living c ≡ true) × (c ≡ x → ⊥)
     living-yet c y = but-other (alive n living) x c (sym (alive-set n living x room c) ∙ y)
@@ -161,15 +168,18 @@ module _ (sup : (ℕ → Bool) → ℕ → ℕ) (n k : ℕ) (before living count
     pub draining-more : Draining sup n k before (set living x 0) counts′ taken′ (head + 1) tail′
     draining-more =
         let was = alive-cleared n before living (take head taken) (s .cleared) in
-        record { behind = omega (arith, w .grows)
-        ; peels = subst (Peels sup k (alive n before)) (sym front′) (peels-more sup k (alive n before) (take head taken) x (s .peels) (weak-same sup f k (alive n living) (without (alive n before) (take head taken)) x was head-weak))
-        ; cleared = gone
-        ; counted = counts-yet
-        ; weak = λ c y. weak-low (getD counts c 0) (getD counts′ c 0) k (has out c) (has (take tail taken) c) (has (take tail′ taken′) c) (w .low c) (s .weak c (living-yet c y .0)) (w .queue c)
-        ; many = w .many
-        ; ahead = λ j l h. alive-set n living x room (getD taken′ j 0) ∙ elim (cases-lt j tail) [
-            inl m ↦ but-from (alive n living) x (getD taken′ j 0) (ap (alive n living) (kept j m) ∙ s .ahead j (omega arith) m) (λ e. later j (omega arith) m (sym (kept j m) ∙ e))
-          | inr m ↦ let o = w .new j m h in but-from (alive n living) x (getD taken′ j 0) (lo .member (getD taken′ j 0) o) (lo .other (getD taken′ j 0) o) ] }
+        record {
+          behind = omega (arith, w .grows);
+          peels = subst (Peels sup k (alive n before)) (sym front′) (peels-more sup k (alive n before) (take head taken) x (s .peels) (weak-same sup f k (alive n living) (without (alive n before) (take head taken)) x was head-weak));
+          cleared = gone;
+          counted = counts-yet;
+          weak = λ c y. weak-low (getD counts c 0) (getD counts′ c 0) k (has out c) (has (take tail taken) c) (has (take tail′ taken′) c) (w .low c) (s .weak c (living-yet c y .0)) (w .queue c);
+          many = w .many;
+          ahead = λ j l h. alive-set n living x room (getD taken′ j 0) ∙ elim (cases-lt j tail) [
+            | inl m ↦ but-from (alive n living) x (getD taken′ j 0) (ap (alive n living) (kept j m) ∙ s .ahead j (omega arith) m) (λ e. later j (omega arith) m (sym (kept j m) ∙ e))
+            | inr m ↦ let o = w .new j m h in but-from (alive n living) x (getD taken′ j 0) (lo .member (getD taken′ j 0) o) (lo .other (getD taken′ j 0) o)
+          ];
+        }
 
 pub draining-all : (sup : (ℕ → Bool) → ℕ → ℕ) (n k : ℕ) (before living counts taken old : List ℕ) (head tail : ℕ) → Falls sup → Draining sup n k before living counts taken head tail → tail ≤ head → tail ≤ length taken → drop tail taken ≡ drop tail old → Peeled-in sup n k before living old taken tail
 draining-all sup n k before living counts taken old head tail f s done fits rest =
@@ -178,11 +188,13 @@ draining-all sup n k before living counts taken old head tail f s done fits rest
     let peels = subst (λ v. Peels sup k (alive n before) (take v taken)) e (s .peels) in
     let was = alive-cleared n before living (take tail taken) cleared in
     let strong : (c : ℕ) → alive n living c ≡ true → k ≤ sup (alive n living) c = λ c y.
-        (let b = alive-byte n living c y in let d = cleared c in
-         let h : has (take tail taken) c ≡ false = elim (cases-bool (has (take tail taken) c)) [ inr z ↦ z | inl z ↦ absurd (grind (arith, tells)) ] in
-         omega (arith, ltb-false (getD counts c 0) k (sym (s .weak c y) ∙ h), s .counted c y)) in
-    record { fits = omega (arith, s .many, count-le (has (take tail taken)) n)
-    ; peels = peels
-    ; cleared = cleared
-    ; largest = largest-same sup f k (alive n before) (without (alive n before) (take tail taken)) (alive n living) (λ c. sym (was c)) (peels-all sup k (alive n before) (take tail taken) f peels (λ c y. omega (arith, support-same sup f (alive n living) (without (alive n before) (take tail taken)) was c, strong c (was c ∙ y))))
-    ; rest = rest }
+    (let b = alive-byte n living c y in let d = cleared c in
+    let h : has (take tail taken) c ≡ false = elim (cases-bool (has (take tail taken) c)) [ inr z ↦ z | inl z ↦ absurd (grind (arith, tells)) ] in
+    omega (arith, ltb-false (getD counts c 0) k (sym (s .weak c y) ∙ h), s .counted c y)) in
+    record {
+      fits = omega (arith, s .many, count-le (has (take tail taken)) n);
+      peels = peels;
+      cleared = cleared;
+      largest = largest-same sup f k (alive n before) (without (alive n before) (take tail taken)) (alive n living) (λ c. sym (was c)) (peels-all sup k (alive n before) (take tail taken) f peels (λ c y. omega (arith, support-same sup f (alive n living) (without (alive n before) (take tail taken)) was c, strong c (was c ∙ y))));
+      rest = rest;
+    }

@@ -68,8 +68,8 @@ fronts sup k all u p f w h (suc i) l c y =
     let x = getD p i 0 in
     let m = take-more p i 0 l in
     let ne : c ≡ x → ⊥ = λ e. (let a : u x ≡ true = ap u (sym e) ∙ y in
-        let b = f u (without all (take i p)) x r in
-        omega (arith, w i l .below, h .each x a)) in
+    let b = f u (without all (take i p)) x r in
+    omega (arith, w i l .below, h .each x a)) in
     rw (← add-one) (ap (λ q. without all q c) m ∙ sym (without-other all (take i p) x c ne) ∙ r c y)
 
 pub peels-keep : (sup : (ℕ → Bool) → ℕ → ℕ) (k : ℕ) (all u : ℕ → Bool) (p : List ℕ) → Falls sup → Peels sup k all p → Supported sup k all u → Within u (without all p)
@@ -88,10 +88,12 @@ largest-same sup f k all s t e h =
 pub largest-one : (sup : (ℕ → Bool) → ℕ → ℕ) (k : ℕ) (all s t : ℕ → Bool) → Largest sup k all s → Largest sup k all t → (c : ℕ) → s c ≡ t c
 largest-one sup k all s t a b c =
     elim (cases-bool (s c)) [
-      inl y ↦ y ∙ sym (b .covers s (a .supported) c y)
-    | inr y ↦ elim (cases-bool (t c)) [
-        inl z ↦ absurd (both-ways (s c) y (a .covers t (b .supported) c z))
-      | inr z ↦ y ∙ sym z ] ]
+      | inl y ↦ y ∙ sym (b .covers s (a .supported) c y)
+      | inr y ↦ elim (cases-bool (t c)) [
+        | inl z ↦ absurd (both-ways (s c) y (a .covers t (b .supported) c z))
+        | inr z ↦ y ∙ sym z
+      ]
+    ]
 
 pub alive-below : (n : ℕ) (bytes : List ℕ) (c : ℕ) → alive n bytes c ≡ true → c < n
 unfolding alive
@@ -130,8 +132,10 @@ peels-same sup f k s t p e w i l =
 
 pub largest-of-same : (sup : (ℕ → Bool) → ℕ → ℕ) (k : ℕ) (all every s : ℕ → Bool) → ((c : ℕ) → all c ≡ every c) → Largest sup k all s → Largest sup k every s
 largest-of-same sup k all every s e h =
-    record { supported = record { within = λ c y. sym (e c) ∙ h .supported .within c y; each = h .supported .each }
-    ; covers = λ u m. h .covers u (record { within = λ c y. e c ∙ m .within c y; each = m .each }) }
+    record {
+      supported = record { within = λ c y. sym (e c) ∙ h .supported .within c y; each = h .supported .each };
+      covers = λ u m. h .covers u (record { within = λ c y. e c ∙ m .within c y; each = m .each });
+    }
 
 -- what is taken out was there
 pub peels-member : (sup : (ℕ → Bool) → ℕ → ℕ) (k : ℕ) (all : ℕ → Bool) (p : List ℕ) (c : ℕ) → Peels sup k all p → has p c ≡ true → all c ≡ true
@@ -151,16 +155,18 @@ has-cons-le zero x p = omega arith
 has-cons-le (suc n) x p =
     let h = has-cons-le n x p in
     elim (cases-eq x n) [
-      inl e ↦ let s = count-same (has (x ∷ p)) (has p) n (λ c l. let q = ne-eqb x c (omega arith) in grind (arith, tells)) in
-        let q = eq-eqb x n e in grind (arith, tells)
-    | inr e ↦ let q = ne-eqb x n e in grind (arith, tells) ]
+      | inl e ↦ let s = count-same (has (x ∷ p)) (has p) n (λ c l. let q = ne-eqb x c (omega arith) in grind (arith, tells)) in
+          let q = eq-eqb x n e in grind (arith, tells)
+      | inr e ↦ let q = ne-eqb x n e in grind (arith, tells)
+    ]
 
 pub has-cons-same : (n x : ℕ) (p : List ℕ) → has p x ≡ true → count (has (x ∷ p)) n ≡ count (has p) n
 unfolding has
 has-cons-same n x p y =
     count-same (has (x ∷ p)) (has p) n (λ c l. elim (cases-eq x c) [
-      inl e ↦ let z : has p c ≡ true = ap (has p) (sym e) ∙ y in grind (arith, tells)
-    | inr e ↦ let q = ne-eqb x c e in grind (arith, tells) ])
+      | inl e ↦ let z : has p c ≡ true = ap (has p) (sym e) ∙ y in grind (arith, tells)
+      | inr e ↦ let q = ne-eqb x c e in grind (arith, tells)
+    ])
 
 pub has-count-le : (n : ℕ) (p : List ℕ) → count (has p) n ≤ length p
 has-count-le n [] = omega (arith, count-empty (has []) n (λ c l. has-none c))
@@ -172,22 +178,25 @@ many-fresh n [] e i j l m = λ q. omega arith
 many-fresh n (x ∷ p) e i zero l m = λ q. omega arith
 many-fresh n (x ∷ p) e zero (suc j) l m = λ q. (let b = has-count-le n p in
     elim (cases-bool (has p x)) [
-      inl y ↦ omega (arith, has-cons-same n x p y)
-    | inr y ↦ both-ways (has p x) y (ap (has p) q ∙ has-at p j (omega arith)) ])
+      | inl y ↦ omega (arith, has-cons-same n x p y)
+      | inr y ↦ both-ways (has p x) y (ap (has p) q ∙ has-at p j (omega arith))
+    ])
 many-fresh n (x ∷ p) e (suc i) (suc j) l m = λ q. (let a = has-cons-le n x p in
     let b = has-count-le n p in
     elim (cases-bool (has p x)) [
-      inl y ↦ omega (arith, has-cons-same n x p y)
-    | inr y ↦ many-fresh n p (omega arith) i j (omega arith) (omega arith) q ])
+      | inl y ↦ omega (arith, has-cons-same n x p y)
+      | inr y ↦ many-fresh n p (omega arith) i j (omega arith) (omega arith) q
+    ])
 
 -- the same of the front
 pub many-front : (n : ℕ) (p : List ℕ) (j : ℕ) → count (has p) n ≡ length p → j < length p → has (take j p) (getD p j 0) ≡ false
 many-front n p j e l =
     elim (cases-bool (has (take j p) (getD p j 0))) [
-      inr y ↦ y
-    | inl y ↦ let r = has-true (take j p) (getD p j 0) y in
-        let t = length-take-le j p (omega arith) in
-        absurd (many-fresh n p e (r .0) j (omega (arith, r .1)) l (sym (getD-take j p (r .0) 0 (omega (arith, r .1))) ∙ r .2)) ]
+      | inr y ↦ y
+      | inl y ↦ let r = has-true (take j p) (getD p j 0) y in
+          let t = length-take-le j p (omega arith) in
+          absurd (many-fresh n p e (r .0) j (omega (arith, r .1)) l (sym (getD-take j p (r .0) 0 (omega (arith, r .1))) ∙ r .2))
+    ]
 
 pub supported-less : (sup : (ℕ → Bool) → ℕ → ℕ) (t r : ℕ) (all s : ℕ → Bool) → t ≤ r → Supported sup r all s → Supported sup t all s
 supported-less sup t r all s l h = record { within = h .within; each = λ c y. omega (arith, h .each c y) }

@@ -50,17 +50,20 @@ module _ (n : ℕ) (p : ℕ → Bool) (old taken : List ℕ) (start tail x : ℕ
   queue-push q e =
       let r = queue-room in
       let t = take-more-set taken tail x (omega arith) in
-      record { same = take-set-le start taken tail x (s .grows) ∙ s .same
-      ; grows = omega (arith, s .grows)
-      ; fits = simp length-set (omega arith)
-      ; queue = λ c. let h = ap (λ v. has v c) t ∙ has-push (take tail taken) x c in let k = s .queue c in let m = e c in grind (arith, tells)
-      ; many = ap (λ v. count (has v) n) t ∙ has-push-count n (take tail taken) x l out ∙ ap (λ (v : ℕ). v + 1) (s .many)
-      ; new = λ j a b. elim (cases-eq j tail) [
-          inl i ↦ let g : getD (set taken tail x) j 0 ≡ x = ap (λ v. getD (set taken tail x) v 0) i ∙ getD-set-same taken tail x 0 (omega arith) in
-            ap q g ∙ e x ∙ or-right (p x) (eqb x x) (eq-eqb x x refl)
-        | inr i ↦ let g = getD-set-other taken tail j x 0 i in
-            ap q g ∙ e (getD taken j 0) ∙ or-left (p (getD taken j 0)) (eqb x (getD taken j 0)) (s .new j a (omega arith)) ]
-      ; rest = drop-set-lt (tail + 1) taken tail x (omega arith) ∙ drop-later tail (tail + 1) taken old (omega arith) (s .rest) }
+      record {
+        same = take-set-le start taken tail x (s .grows) ∙ s .same;
+        grows = omega (arith, s .grows);
+        fits = simp length-set (omega arith);
+        queue = λ c. let h = ap (λ v. has v c) t ∙ has-push (take tail taken) x c in let k = s .queue c in let m = e c in grind (arith, tells);
+        many = ap (λ v. count (has v) n) t ∙ has-push-count n (take tail taken) x l out ∙ ap (λ (v : ℕ). v + 1) (s .many);
+        new = λ j a b. elim (cases-eq j tail) [
+          | inl i ↦ let g : getD (set taken tail x) j 0 ≡ x = ap (λ v. getD (set taken tail x) v 0) i ∙ getD-set-same taken tail x 0 (omega arith) in
+              ap q g ∙ e x ∙ or-right (p x) (eqb x x) (eq-eqb x x refl)
+          | inr i ↦ let g = getD-set-other taken tail j x 0 i in
+              ap q g ∙ e (getD taken j 0) ∙ or-left (p (getD taken j 0)) (eqb x (getD taken j 0)) (s .new j a (omega arith))
+        ];
+        rest = drop-set-lt (tail + 1) taken tail x (omega arith) ∙ drop-later tail (tail + 1) taken old (omega arith) (s .rest);
+      }
 
 -- the living items with a count below k, looked at up to c
 unfoldable pub lesser : ℕ → List ℕ → List ℕ → ℕ → ℕ → ℕ → Bool
@@ -74,31 +77,37 @@ pub lesser-yes : (n : ℕ) (living counts : List ℕ) (k c : ℕ) → c < n → 
 unfolding lesser alive
 lesser-yes n living counts k c l y z i =
     elim (cases-eq c i) [
-      inl e ↦ let a = lt-ltb i (c + 1) (omega arith) in
-        let q = eq-eqb c i e in
-        let b = lt-ltb i n (omega arith) in
-        let d = eq-eqb (getD living i 0) 1 (ap (λ v. getD living v 0) (sym e) ∙ y) in
-        let f = lt-ltb (getD counts i 0) k (let h = ap (λ v. getD counts v 0) e in omega arith) in
-        grind (arith, tells)
-    | inr e ↦ let q = ne-eqb c i e in
-        elim (cases-lt i c) [
-          inl m ↦ let a = lt-ltb i (c + 1) (omega arith) in let b = lt-ltb i c m in grind (arith, tells)
-        | inr m ↦ let a = le-ltb i (c + 1) (omega arith) in let b = le-ltb i c m in grind (arith, tells) ] ]
+      | inl e ↦ let a = lt-ltb i (c + 1) (omega arith) in
+          let q = eq-eqb c i e in
+          let b = lt-ltb i n (omega arith) in
+          let d = eq-eqb (getD living i 0) 1 (ap (λ v. getD living v 0) (sym e) ∙ y) in
+          let f = lt-ltb (getD counts i 0) k (let h = ap (λ v. getD counts v 0) e in omega arith) in
+          grind (arith, tells)
+      | inr e ↦ let q = ne-eqb c i e in
+          elim (cases-lt i c) [
+            | inl m ↦ let a = lt-ltb i (c + 1) (omega arith) in let b = lt-ltb i c m in grind (arith, tells)
+            | inr m ↦ let a = le-ltb i (c + 1) (omega arith) in let b = le-ltb i c m in grind (arith, tells)
+          ]
+    ]
 
 pub lesser-no : (n : ℕ) (living counts : List ℕ) (k c : ℕ) → ((getD living c 0 ≡ 1) → getD counts c 0 < k → ⊥) → (i : ℕ) → lesser n living counts k (c + 1) i ≡ lesser n living counts k c i
 unfolding lesser alive
 lesser-no n living counts k c un i =
     elim (cases-eq i c) [
-      inl e ↦ let b = le-ltb i c (omega arith) in
-        let z : (ltb i n && eqb (getD living i 0) 1 && ltb (getD counts i 0) k) ≡ false = elim (cases-eq (getD living i 0) 1) [
-            inr ne ↦ let d = ne-eqb (getD living i 0) 1 ne in grind (arith, tells)
-          | inl y ↦ elim (cases-lt (getD counts i 0) k) [
-              inr m ↦ let f = le-ltb (getD counts i 0) k m in grind (arith, tells)
-            | inl m ↦ absurd (un (ap (λ v. getD living v 0) (sym e) ∙ y) (let h = ap (λ v. getD counts v 0) e in omega arith)) ] ] in
-        grind (arith, tells)
-    | inr e ↦ elim (cases-lt i c) [
-          inl m ↦ let a = lt-ltb i (c + 1) (omega arith) in let b = lt-ltb i c m in grind (arith, tells)
-        | inr m ↦ let a = le-ltb i (c + 1) (omega arith) in let b = le-ltb i c m in grind (arith, tells) ] ]
+      | inl e ↦ let b = le-ltb i c (omega arith) in
+          let z : (ltb i n && eqb (getD living i 0) 1 && ltb (getD counts i 0) k) ≡ false = elim (cases-eq (getD living i 0) 1) [
+            | inr ne ↦ let d = ne-eqb (getD living i 0) 1 ne in grind (arith, tells)
+            | inl y ↦ elim (cases-lt (getD counts i 0) k) [
+              | inr m ↦ let f = le-ltb (getD counts i 0) k m in grind (arith, tells)
+              | inl m ↦ absurd (un (ap (λ v. getD living v 0) (sym e) ∙ y) (let h = ap (λ v. getD counts v 0) e in omega arith))
+            ]
+          ] in
+          grind (arith, tells)
+      | inr e ↦ elim (cases-lt i c) [
+        | inl m ↦ let a = lt-ltb i (c + 1) (omega arith) in let b = lt-ltb i c m in grind (arith, tells)
+        | inr m ↦ let a = le-ltb i (c + 1) (omega arith) in let b = le-ltb i c m in grind (arith, tells)
+      ]
+    ]
 
 pub lesser-out : (n : ℕ) (living counts : List ℕ) (k c : ℕ) → lesser n living counts k c c ≡ false
 unfolding lesser
@@ -121,16 +130,18 @@ unfolding fallen
 fallen-yes out counts k j l e c =
     let h = ap (λ p. has p c) (take-more out j 0 l) ∙ has-push (take j out) (getD out j 0) c in
     elim (cases-eq (getD out j 0) c) [
-      inl i ↦ let q = eq-eqb (getD out j 0) c i in let z = eq-eqb (getD counts c 0 + 1) k (ap (λ v. getD counts v 0 + 1) (sym i) ∙ e) in grind (arith, tells)
-    | inr i ↦ let q = ne-eqb (getD out j 0) c i in grind (arith, tells) ]
+      | inl i ↦ let q = eq-eqb (getD out j 0) c i in let z = eq-eqb (getD counts c 0 + 1) k (ap (λ v. getD counts v 0 + 1) (sym i) ∙ e) in grind (arith, tells)
+      | inr i ↦ let q = ne-eqb (getD out j 0) c i in grind (arith, tells)
+    ]
 
 pub fallen-no : (out counts : List ℕ) (k j : ℕ) → j < length out → (getD counts (getD out j 0) 0 + 1 ≡ k → ⊥) → (c : ℕ) → fallen out counts k (j + 1) c ≡ fallen out counts k j c
 unfolding fallen
 fallen-no out counts k j l ne c =
     let h = ap (λ p. has p c) (take-more out j 0 l) ∙ has-push (take j out) (getD out j 0) c in
     elim (cases-eq (getD out j 0) c) [
-      inl i ↦ let z = ne-eqb (getD counts c 0 + 1) k (λ e. ne (ap (λ v. getD counts v 0 + 1) i ∙ e)) in grind (arith, tells)
-    | inr i ↦ let q = ne-eqb (getD out j 0) c i in grind (arith, tells) ]
+      | inl i ↦ let z = ne-eqb (getD counts c 0 + 1) k (λ e. ne (ap (λ v. getD counts v 0 + 1) i ∙ e)) in grind (arith, tells)
+      | inr i ↦ let q = ne-eqb (getD out j 0) c i in grind (arith, tells)
+    ]
 
 pub fallen-all : (out counts : List ℕ) (k j c : ℕ) → fallen out counts k j c ≡ (has (take j out) c && eqb (getD counts c 0 + 1) k)
 unfolding fallen
@@ -140,8 +151,15 @@ fallen-all out counts k j c = refl
 pub lowered-from : (n k : ℕ) (out counts counts′ taken taken′ : List ℕ) (tail tail′ lost : ℕ) → ((c : ℕ) → getD counts c 0 ≡ getD counts′ c 0 + cond (has (take lost out) c) 1 0) → Queue n (fallen out counts′ k lost) taken taken′ tail tail′ → Lowered n k (take lost out) counts counts′ taken taken′ tail tail′
 unfolding fallen
 lowered-from n k out counts counts′ taken taken′ tail tail′ lost low q =
-    record { low = low; same = q .same; grows = q .grows; fits = q .fits; queue = q .queue; many = q .many
-    ; new = λ j a b. and-parts (has (take lost out) (getD taken′ j 0)) (eqb (getD counts′ (getD taken′ j 0) 0 + 1) k) (q .new j a b) .0 }
+    record {
+      low = low;
+      same = q .same;
+      grows = q .grows;
+      fits = q .fits;
+      queue = q .queue;
+      many = q .many;
+      new = λ j a b. and-parts (has (take lost out) (getD taken′ j 0)) (eqb (getD counts′ (getD taken′ j 0) 0 + 1) k) (q .new j a b) .0;
+    }
 
 -- each place of the losers is new
 pub out-fresh : (n : ℕ) (out : List ℕ) (lost j : ℕ) → count (has (take lost out)) n ≡ lost → lost ≤ length out → j < lost → has (take j out) (getD out j 0) ≡ false
@@ -156,13 +174,14 @@ low-more out before counts n lost j v m fits l low within e c =
     let h = ap (λ p. has p c) (take-more out j 0 (omega arith)) ∙ has-push (take j out) (getD out j 0) c in
     let k = low c in
     elim (cases-eq c (getD out j 0)) [
-      inl i ↦ let f = out-fresh n out lost j m fits l in
-        let g = ap (λ x. getD (set counts (getD out j 0) v) x 0) i ∙ getD-set-same counts (getD out j 0) v 0 within in
-        let q = eq-eqb (getD out j 0) c (sym i) in
-        let w = ap (has (take j out)) i in
-        let u = ap (λ x. getD counts x 0) i in
-        grind (arith, tells)
-    | inr i ↦ let g = getD-set-other counts (getD out j 0) c v 0 i in let q = ne-eqb (getD out j 0) c (λ z. i (sym z)) in grind (arith, tells) ]
+      | inl i ↦ let f = out-fresh n out lost j m fits l in
+          let g = ap (λ x. getD (set counts (getD out j 0) v) x 0) i ∙ getD-set-same counts (getD out j 0) v 0 within in
+          let q = eq-eqb (getD out j 0) c (sym i) in
+          let w = ap (has (take j out)) i in
+          let u = ap (λ x. getD counts x 0) i in
+          grind (arith, tells)
+      | inr i ↦ let g = getD-set-other counts (getD out j 0) c v 0 i in let q = ne-eqb (getD out j 0) c (λ z. i (sym z)) in grind (arith, tells)
+    ]
 
 -- what is lowered next has a count above 0
 pub low-positive : (out before counts : List ℕ) (n lost j : ℕ) → count (has (take lost out)) n ≡ lost → lost ≤ length out → j < lost → ((c : ℕ) → getD before c 0 ≡ getD counts c 0 + cond (has (take j out) c) 1 0) → 0 < getD before (getD out j 0) 0 → 0 < getD counts (getD out j 0) 0

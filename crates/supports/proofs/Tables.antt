@@ -22,22 +22,25 @@ pub filled-more : (v : ℕ) (before after : List ℕ) (k : ℕ) → k < length a
 filled-more v before after k l f i =
     let h = f i in
     elim (cases-eq i k) [
-      inl e ↦ let g = getD-set-same after k v 0 l in
-        let z = ap (λ x. getD (set after k v) x 0) e in
-        let a = lt-ltb i (k + 1) (omega arith) in grind (arith, tells)
-    | inr ne ↦ let g = getD-set-other after k i v 0 ne in
-        elim (cases-lt i k) [
-          inl m ↦ let a = lt-ltb i (k + 1) (omega arith) in let b = lt-ltb i k m in grind (arith, tells)
-        | inr m ↦ let a = le-ltb i (k + 1) (omega arith) in let b = le-ltb i k m in grind (arith, tells) ] ]
+      | inl e ↦ let g = getD-set-same after k v 0 l in
+          let z = ap (λ x. getD (set after k v) x 0) e in
+          let a = lt-ltb i (k + 1) (omega arith) in grind (arith, tells)
+      | inr ne ↦ let g = getD-set-other after k i v 0 ne in
+          elim (cases-lt i k) [
+            | inl m ↦ let a = lt-ltb i (k + 1) (omega arith) in let b = lt-ltb i k m in grind (arith, tells)
+            | inr m ↦ let a = le-ltb i (k + 1) (omega arith) in let b = le-ltb i k m in grind (arith, tells)
+          ]
+    ]
 
 pub revived-more : (taken before living : List ℕ) (j : ℕ) → j < length taken → getD taken j 0 < length living → ((c : ℕ) → getD living c 0 ≡ cond (has (take j taken) c) 1 (getD before c 0)) → (c : ℕ) → getD (set living (getD taken j 0) 1) c 0 ≡ cond (has (take (j + 1) taken) c) 1 (getD before c 0)
 revived-more taken before living j l within f c =
     let h = ap (λ p. has p c) (take-more taken j 0 l) ∙ has-push (take j taken) (getD taken j 0) c in
     let k = f c in
     elim (cases-eq c (getD taken j 0)) [
-      inl i ↦ let g = ap (λ x. getD (set living (getD taken j 0) 1) x 0) i ∙ getD-set-same living (getD taken j 0) 1 0 within in
-        let q = eq-eqb (getD taken j 0) c (sym i) in grind (arith, tells)
-    | inr i ↦ let g = getD-set-other living (getD taken j 0) c 1 0 i in let q = ne-eqb (getD taken j 0) c (λ z. i (sym z)) in grind (arith, tells) ]
+      | inl i ↦ let g = ap (λ x. getD (set living (getD taken j 0) 1) x 0) i ∙ getD-set-same living (getD taken j 0) 1 0 within in
+          let q = eq-eqb (getD taken j 0) c (sym i) in grind (arith, tells)
+      | inr i ↦ let g = getD-set-other living (getD taken j 0) c 1 0 i in let q = ne-eqb (getD taken j 0) c (λ z. i (sym z)) in grind (arith, tells)
+    ]
 
 -- one item more
 pub alive-wider : (c : ℕ) (living : List ℕ) (k : ℕ) → alive (c + 1) living k ≡ true → (alive c living k ≡ true) ⊎ ((k ≡ c) × (getD living c 0 ≡ 1))
@@ -55,26 +58,40 @@ none-zero living k = elim (cases-bool (alive 0 living k)) [ inr y ↦ y | inl y 
 pub none-more : (c : ℕ) (living : List ℕ) → ((k : ℕ) → alive c living k ≡ false) → (getD living c 0 ≡ 1 → ⊥) → (k : ℕ) → alive (c + 1) living k ≡ false
 none-more c living f ne k =
     elim (cases-bool (alive (c + 1) living k)) [
-      inr y ↦ y
-    | inl y ↦ elim (alive-wider c living k y) [ inl z ↦ absurd (both-ways (alive c living k) (f k) z) | inr z ↦ absurd (ne (z .1)) ] ]
+      | inr y ↦ y
+      | inl y ↦ elim (alive-wider c living k y) [ inl z ↦ absurd (both-ways (alive c living k) (f k) z) | inr z ↦ absurd (ne (z .1)) ]
+    ]
 
 pub lowest-first : (c : ℕ) (living counts : List ℕ) → ((k : ℕ) → alive c living k ≡ false) → getD living c 0 ≡ 1 → Lowest-count (c + 1) living counts (getD counts c 0)
 lowest-first c living counts f b =
-    record { item = c; member = alive-yes (c + 1) living c (omega arith) b; count-is = refl
-    ; least = λ k y. elim (alive-wider c living k y) [ inl z ↦ absurd (both-ways (alive c living k) (f k) z) | inr z ↦ let h = ap (λ v. getD counts v 0) (z .0) in omega arith ] }
+    record {
+      item = c;
+      member = alive-yes (c + 1) living c (omega arith) b;
+      count-is = refl;
+      least = λ k y. elim (alive-wider c living k y) [ inl z ↦ absurd (both-ways (alive c living k) (f k) z) | inr z ↦ let h = ap (λ v. getD counts v 0) (z .0) in omega arith ];
+    }
 
 pub lowest-skip : (c : ℕ) (living counts : List ℕ) (low : ℕ) → Lowest-count c living counts low → (getD living c 0 ≡ 1 → low ≤ getD counts c 0) → Lowest-count (c + 1) living counts low
 lowest-skip c living counts low w f =
-    record { item = w .item; member = alive-narrow c living (w .item) (w .member); count-is = w .count-is
-    ; least = λ k y. elim (alive-wider c living k y) [ inl z ↦ w .least k z | inr z ↦ let h = ap (λ v. getD counts v 0) (z .0) in let q = f (z .1) in omega arith ] }
+    record {
+      item = w .item;
+      member = alive-narrow c living (w .item) (w .member);
+      count-is = w .count-is;
+      least = λ k y. elim (alive-wider c living k y) [ inl z ↦ w .least k z | inr z ↦ let h = ap (λ v. getD counts v 0) (z .0) in let q = f (z .1) in omega arith ];
+    }
 
 pub lowest-new : (c : ℕ) (living counts : List ℕ) (low : ℕ) → Lowest-count c living counts low → getD living c 0 ≡ 1 → getD counts c 0 ≤ low → Lowest-count (c + 1) living counts (getD counts c 0)
 lowest-new c living counts low w b l =
-    record { item = c; member = alive-yes (c + 1) living c (omega arith) b; count-is = refl
-    ; least = λ k y. elim (alive-wider c living k y) [ inl z ↦ omega (arith, w .least k z) | inr z ↦ let h = ap (λ v. getD counts v 0) (z .0) in omega arith ] }
+    record {
+      item = c;
+      member = alive-yes (c + 1) living c (omega arith) b;
+      count-is = refl;
+      least = λ k y. elim (alive-wider c living k y) [ inl z ↦ omega (arith, w .least k z) | inr z ↦ let h = ap (λ v. getD counts v 0) (z .0) in omega arith ];
+    }
 
 pub lowest-min : (c : ℕ) (living counts : List ℕ) (low r : ℕ) → Lowest-count c living counts low → getD living c 0 ≡ 1 → r ≡ min low (getD counts c 0) → Lowest-count (c + 1) living counts r
 lowest-min c living counts low r w b e =
     elim (cases-lt (getD counts c 0) low) [
-      inl l ↦ let q : getD counts c 0 ≡ r = omega arith in subst (Lowest-count (c + 1) living counts) q (lowest-new c living counts low w b (omega arith))
-    | inr l ↦ let q : low ≡ r = omega arith in subst (Lowest-count (c + 1) living counts) q (lowest-skip c living counts low w (λ h. l)) ]
+      | inl l ↦ let q : getD counts c 0 ≡ r = omega arith in subst (Lowest-count (c + 1) living counts) q (lowest-new c living counts low w b (omega arith))
+      | inr l ↦ let q : low ≡ r = omega arith in subst (Lowest-count (c + 1) living counts) q (lowest-skip c living counts low w (λ h. l))
+    ]

@@ -18,9 +18,9 @@ never-refused : (n room : ℕ) (proper : Type 0) (living marks : ℕ) (x : Refus
 never-refused n room proper living marks x p few l k h =
     elim h [
       | inl a ↦ elim a [
-          | inl b ↦ omega (arith, b .1)
-          | inr b ↦ elim (b .2) [ inl d ↦ omega arith | inr d ↦ elim d [ inl e ↦ omega arith | inr e ↦ omega arith ] ]
-        ]
+        | inl b ↦ omega (arith, b .1)
+        | inr b ↦ elim (b .2) [ inl d ↦ omega arith | inr d ↦ elim d [ inl e ↦ omega arith | inr e ↦ omega arith ] ]
+      ]
       | inr a ↦ a .2 p
     ]
 
@@ -81,6 +81,6 @@ returns g c =
     let full : (k : ℕ) → getD (c .fill-2 .last .bytes) k 0 ≡ cond (ltb k (edge-count G)) 1 (getD (c .args .living .now) k 0) = subst (λ n. (k : ℕ) → getD (c .fill-2 .last .bytes) k 0 ≡ cond (ltb k n) 1 (getD (c .args .living .now) k 0)) v (c .fill-2 .ensures) in
     let D = deepest-of G (take (m - 0) (c .write-edges-m .last .clashes)) (c .size-n .result) (c .fill-2 .last .bytes) (c .deepest .last .living) (c .in-Ok .number) e (c .size-n .ensures) (c .in-Ok .ensures tt .cases .0) in
     record {
-      cases = capped-edged G lw (c .args .clashes .now) (c .write-edges-m .last .clashes) E (c .args .living .now) (c .fill-2 .last .bytes) (c .deepest .last .living) (c .in-Ok .number) full D (omega (arith, c .if-m-eq0 .left)) (c .args .marks .now) (c .fill .last .bytes) (c .deepest .last .marks) (c .size-n .result) (c .degeneracy-found .result .degeneracy) (c .min .result) (c .size-n .ensures) (c .degeneracy-found .ensures .degeneracy) (c .fill .ensures) (c .in-Ok .ensures tt .cases .1) (c .min .ensures);
+      cases = capped-edged G lw (c .args .clashes .now) (c .write-edges-m .last .clashes) E (c .args .living .now) (c .fill-2 .last .bytes) (c .deepest .last .living) (c .in-Ok .number) full D (omega (arith, c .if-m-eq0 .left)) (c .args .marks .now) (c .fill .last .bytes) (c .deepest .last .marks) (c .size-n .result) (c .degeneracy-found .result .degeneracy) (c .smaller .result) (c .size-n .ensures) (c .degeneracy-found .ensures .degeneracy) (c .fill .ensures) (c .in-Ok .ensures tt .cases .1) (c .smaller .ensures);
       refused = c .in-rest .ensures tt;
     }

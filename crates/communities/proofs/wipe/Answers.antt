@@ -15,12 +15,14 @@ returns c = λ k.
     let e = c .min-k-end .ensures in
     let h = c .loop-k .inv k in
     elim (cases-lt k (c .loop-k .k)) [
-      inl l ↦ let a : k < c .args .n = omega arith in grind (arith, tells)
-    | inr l ↦ elim (cases-lt k (c .args .n)) [
-        inl m ↦ let b : length (c .args .marks .now) ≤ k = omega arith in
-          let z = getD-past (c .args .marks .now) k 0 b in
-          grind (arith, tells)
-      | inr m ↦ grind (arith, tells) ] ]
+      | inl l ↦ let a : k < c .args .n = omega arith in grind (arith, tells)
+      | inr l ↦ elim (cases-lt k (c .args .n)) [
+        | inl m ↦ let b : length (c .args .marks .now) ≤ k = omega arith in
+            let z = getD-past (c .args .marks .now) k 0 b in
+            grind (arith, tells)
+        | inr m ↦ grind (arith, tells)
+      ]
+    ]
 
 pub loop-k-again : need.loop-k-again
 loop-k-again c =

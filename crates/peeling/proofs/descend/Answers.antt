@@ -16,7 +16,7 @@ use Rattle.peeling.proofs.descend.Needs as need
 
 pub loop-low-holds : need.loop-low-holds
 loop-low-holds g c =
-    ( descent-none _ _ _ _ (c .pre .counted), omega arith, (λ k y. absurd (both-ways (has [] k) (has-none k) y)), λ k. refl )
+    (descent-none _ _ _ _ (c .pre .counted), omega arith, (λ k y. absurd (both-ways (has [] k) (has-none k) y)), λ k. refl)
 
 pub loop-low-less : need.loop-low-less
 loop-low-less g c =
@@ -32,8 +32,7 @@ loop-low-again g c =
     let d = c .loop-low .inv .0 in
     let e = c .item-count-n .ensures in
     let l = subst (λ (v : ℕ). Lowest-count v (c .loop-low .living) (c .loop-low .counts) (c .in-Some .low)) e (c .in-Some .ensures tt) in
-    let p = c .drain-len .ensures .peeled in
-    (
+    let p = c .drain-len .ensures .peeled in (
       descent-more _ _ _ _ _ _ _ _ f d l (descent-up _ _ _ _ _ _ _ _ d l) _ _ _ _ _ p (c .drain-len .ensures .counted),
       omega (arith, p .fits, c .pre .tables .takes),
       descent-was _ _ _ _ _ _ _ _ _ _ _ _ d p,

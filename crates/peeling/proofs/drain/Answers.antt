@@ -27,9 +27,13 @@ loop-head-holds g c =
     let e = c .item-count-n .ensures in
     let q = c .first-weak-tail .ensures in
     let queue : (i : ℕ) → has (take t xs) i ≡ (alive N living i && ltb (getD counts i 0) k) = λ i.
-        (q .queue i ∙ or-no (has [] i) (lesser (c .item-count-n .result) living counts k (c .item-count-n .result) i) (has-none i) ∙ lesser-all (c .item-count-n .result) living counts k i ∙ ap (λ (v : ℕ). alive v living i && ltb (getD counts i 0) k) e) in
-    ( draining-none sup N k living counts xs t (c .pre .counted) (q .fits) queue (subst (λ (v : ℕ). count (has (take t xs)) v ≡ t) e (q .many))
-    , q .fits, omega arith, refl, λ i. refl )
+    (q .queue i ∙ or-no (has [] i) (lesser (c .item-count-n .result) living counts k (c .item-count-n .result) i) (has-none i) ∙ lesser-all (c .item-count-n .result) living counts k i ∙ ap (λ (v : ℕ). alive v living i && ltb (getD counts i 0) k) e) in (
+      draining-none sup N k living counts xs t (c .pre .counted) (q .fits) queue (subst (λ (v : ℕ). count (has (take t xs)) v ≡ t) e (q .many)),
+      q .fits,
+      omega arith,
+      refl,
+      λ i. refl,
+    )
 
 pub index-living-x : need.index-living-x
 index-living-x g c =
@@ -83,8 +87,7 @@ loop-head-again g c =
     let out = take (c .losers-lost .result) (c .losers-lost .last .out) in
     let q = c .push-fallen-tail .ensures in
     let w : Lowered N (c .args .least) out (c .loop-head .counts) (c .lower .last .counts) (c .loop-head .taken) (c .push-fallen-tail .last .taken) (c .loop-head .tail) (c .push-fallen-tail .result) =
-      subst (λ (v : ℕ). Lowered v (c .args .least) out (c .loop-head .counts) (c .lower .last .counts) (c .loop-head .taken) (c .push-fallen-tail .last .taken) (c .loop-head .tail) (c .push-fallen-tail .result)) e (lowered-from _ _ _ _ _ _ _ _ _ _ (c .lower .ensures) q) in
-    (
+    subst (λ (v : ℕ). Lowered v (c .args .least) out (c .loop-head .counts) (c .lower .last .counts) (c .loop-head .taken) (c .push-fallen-tail .last .taken) (c .loop-head .tail) (c .push-fallen-tail .result)) e (lowered-from _ _ _ _ _ _ _ _ _ _ (c .lower .ensures) q) in (
       draining-more sup N (c .args .least) (c .args .living .now) (c .loop-head .living) (c .loop-head .counts) (c .loop-head .taken) (c .loop-head .head) (c .loop-head .tail) f (omega (arith, c .pre .tables .lives)) (i .0) (omega arith) (i .1) out (c .lower .last .counts) (c .push-fallen-tail .last .taken) (c .push-fallen-tail .result) lo w,
       q .fits,
       omega (arith, i .2, q .grows),

@@ -28,8 +28,7 @@ pub loop-a-again : need.loop-a-again
 loop-a-again g c =
     let G = g .S·Source .graph (c .args .source .now) in
     let a = c .loop-a .a in
-    let e = c .write-row-len .ensures in
-    (
+    let e = c .write-row-len .ensures in (
       e .front ∙ ap (λ (p : List Edge). p ++ edges-at G a) (c .loop-a .inv .0) ∙ sym (below-more G a),
       omega (arith, e .value, c .loop-a .inv .1, below-length G a),
       e .rest ∙ drop-later (c .loop-a .len) (c .write-row-len .result) (c .loop-a .clashes) (c .args .clashes .now) (omega (arith, e .value)) (c .loop-a .inv .2),

@@ -15,10 +15,11 @@ use Rattle.capping.proofs.edges.write_row.Needs.{in-Some·then-a-b, in-Some·e
 pub loop-i-holds : need.loop-i-holds
 loop-i-holds g c =
     let G = g .S·Source .graph (c .args .source .now) in
-    let e = met-none G (c .args .a) in
-    ( sym (ap (λ (v : List Edge). take (c .args .start) (c .args .clashes .now) ++ v) e ∙ append-nil (take (c .args .start) (c .args .clashes .now)))
-    , omega (arith, ap length e)
-    , refl )
+    let e = met-none G (c .args .a) in (
+      sym (ap (λ (v : List Edge). take (c .args .start) (c .args .clashes .now) ++ v) e ∙ append-nil (take (c .args .start) (c .args .clashes .now))),
+      omega (arith, ap length e),
+      refl,
+    )
 
 pub index-clashes-len : need.index-clashes-len
 index-clashes-len g c =

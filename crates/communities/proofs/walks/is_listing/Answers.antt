@@ -21,12 +21,12 @@ returns-then-e c =
     record {
       yes = λ z. absurd (both-ways false refl z);
       no = λ z g.
-        let h = rising-at (c .args .n) None (c .args .list .now) (c .loop-e .e-index) (g .rising) (c .loop-e-test .taken) in
-        elim (c .then-e .came) [
-          | then-e·by·then-e w ↦ omega (arith, h .smaller, w .if-e .taken)
-          | then-e·by·else-e·then-e-n w ↦ omega (arith, h .below, w .if-e-n .taken)
-          | then-e·by·else-e·else-e-n·then-not-is-above w ↦ both-ways (w .is-above .result) (w .if-not-is-above .taken) (w .is-above .ensures ∙ ap (λ o. above o (edge-at (c .args .list .now) (c .loop-e .e-index))) (c .loop-e .inv .0) ∙ h .next)
-        ];
+          let h = rising-at (c .args .n) None (c .args .list .now) (c .loop-e .e-index) (g .rising) (c .loop-e-test .taken) in
+          elim (c .then-e .came) [
+            | then-e·by·then-e w ↦ omega (arith, h .smaller, w .if-e .taken)
+            | then-e·by·else-e·then-e-n w ↦ omega (arith, h .below, w .if-e-n .taken)
+            | then-e·by·else-e·else-e-n·then-not-is-above w ↦ both-ways (w .is-above .result) (w .if-not-is-above .taken) (w .is-above .ensures ∙ ap (λ o. above o (edge-at (c .args .list .now) (c .loop-e .e-index))) (c .loop-e .inv .0) ∙ h .next)
+          ];
     }
 
 pub loop-e-again : need.loop-e-again
@@ -37,9 +37,10 @@ loop-e-again c =
       smaller = c .if-e .left;
       below = c .if-e-n .left;
       next = ap (λ o. above o (edge-at list j)) (sym (c .loop-e .inv .0)) ∙ sym (c .is-above .ensures) ∙ c .if-not-is-above .left;
-    } in
-    ( sym (prev-more None list j (c .loop-e-test .taken))
-    , λ i l. elim (cases-eq i j) [ inl e ↦ subst (Right-at (c .args .n) None list) (sym e) here | inr e ↦ c .loop-e .inv .1 i (omega arith) ] )
+    } in (
+      sym (prev-more None list j (c .loop-e-test .taken)),
+      λ i l. elim (cases-eq i j) [ inl e ↦ subst (Right-at (c .args .n) None list) (sym e) here | inr e ↦ c .loop-e .inv .1 i (omega arith) ],
+    )
 
 pub returns : need.returns
 returns c =

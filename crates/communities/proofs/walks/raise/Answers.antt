@@ -4,6 +4,7 @@ use mathlib.Core.List.{List}
 use Prim.Native.Nat.{ℕ, _+_, _-_, _<_, _≤_}
 use native.Mathlib.Omega.{arith}
 use lib.ListN.{length}
+use Rattle.std.proofs.shelf.Tests.{eqb-true, eqb-false}
 use Rattle.finite.proofs.Counts.{count-le}
 use Rattle.supports.specs.Peel.{alive}
 use Rattle.supports.proofs.Peels.{alive-yes, alive-no}
@@ -11,14 +12,15 @@ use Rattle.cohesion.specs.Common.{last-at, linked}
 use Rattle.cohesion.proofs.Chains.{Walk, met, walk-start, walk-next, met-none, met-yes, met-no, met-all}
 use Rattle.cohesion.proofs.Raises.{Raised, fresh, raised-none, raised-same, raised-no, raised-yes, raised-all, stand-within, stand-smaller, stand-far, stand-next, stand-less}
 use Rattle.communities.proofs.walks.raise.Needs as need
-use Rattle.communities.proofs.walks.raise.Needs.{then-living-e-eq1·then-marks-w, else-living-e-eq1, else-living-e-eq1·by·then-living-e-eq1·else-marks-w, else-living-e-eq1·by·else-living-e-eq1}
+use Rattle.communities.proofs.walks.raise.Needs.{then-lives·then-marks-w, else-lives, else-lives·by·then-lives·else-marks-w, else-lives·by·else-lives}
 
 pub loop-at-holds : need.loop-at-holds
 loop-at-holds c =
     let list = c .args .list .now in
-    let e = c .pre .chained .heads (c .args .u) (c .pre .within) in
-    ( walk-start list (c .args .u) _ e
-    , raised-none _ (c .args .n) (c .args .from) (c .args .to) (c .args .marks .now) (met-none list (alive (length list) (c .args .living .now)) (c .args .u) _ e) )
+    let e = c .pre .chained .heads (c .args .u) (c .pre .within) in (
+      walk-start list (c .args .u) _ e,
+      raised-none _ (c .args .n) (c .args .from) (c .args .to) (c .args .marks .now) (met-none list (alive (length list) (c .args .living .now)) (c .args .u) _ e),
+    )
 
 pub offset-list-e : need.offset-list-e
 offset-list-e c =
@@ -30,8 +32,8 @@ pub index-list-e : need.index-list-e
 index-list-e c =
     stand-within (c .args .n) (c .args .list .now) (c .args .table .now) (c .args .u) (c .loop-at .at) (c .pre .chained) (c .loop-at .inv .0) (omega arith)
 
-pub index-living-e : need.index-living-e
-index-living-e c =
+pub lives-requires : need.lives-requires
+lives-requires c κs =
     omega (arith, stand-within (c .args .n) (c .args .list .now) (c .args .table .now) (c .args .u) (c .loop-at .at) (c .pre .chained) (c .loop-at .inv .0) (omega arith), c .pre .lives)
 
 pub index-marks-w : need.index-marks-w
@@ -80,15 +82,16 @@ loop-at-again c =
     let le = stand-within n list (c .args .table .now) u at ch wk pos in
     let yes = met-yes list S u at r wk pos nx x lt (c .far-end-w .ensures) in
     let before = c .args .marks .now in
-    let R : List ℕ → ℕ → Type 0 = λ m t. Raised (met list S u r) n (c .args .from) (c .args .to) before m t in
-    ( walk-next list u at r wk pos nx
-    , elim (c .if-living-e-eq1 .came) [
-      | then-living-e-eq1·then-marks-w w ↦ subst₂ R (sym (w .marks-is)) (sym (w .total-is)) (raised-yes (met list S u at) (met list S u r) n (c .args .from) (c .args .to) before (c .loop-at .marks) (c .loop-at .total) x (yes (alive-yes (length list) (c .args .living .now) (at - 1) le (w .if-living-e-eq1 .taken))) (c .pre .differ) (c .loop-at .inv .1) lx (omega (arith, c .pre .room)) (w .if-marks-w .taken))
-      | else-living-e-eq1 w ↦ subst₂ R (sym (w .marks-is)) (sym (w .total-is)) (elim (w .else-living-e-eq1 .came) [
-          | else-living-e-eq1·by·then-living-e-eq1·else-marks-w v ↦ raised-no (met list S u at) (met list S u r) n (c .args .from) (c .args .to) before (c .loop-at .marks) (c .loop-at .total) x (yes (alive-yes (length list) (c .args .living .now) (at - 1) le (v .if-living-e-eq1 .taken))) (c .pre .differ) (c .loop-at .inv .1) lx (v .if-marks-w .left)
-          | else-living-e-eq1·by·else-living-e-eq1 v ↦ raised-same (met list S u at) (met list S u r) n (c .args .from) (c .args .to) before (c .loop-at .marks) (c .loop-at .total) (met-no list S u at r wk pos nx (alive-no (length list) (c .args .living .now) (at - 1) (v .if-living-e-eq1 .left))) (c .loop-at .inv .1)
+    let R : List ℕ → ℕ → Type 0 = λ m t. Raised (met list S u r) n (c .args .from) (c .args .to) before m t in (
+      walk-next list u at r wk pos nx,
+      elim (c .if-lives .came) [
+        | then-lives·then-marks-w w ↦ subst₂ R (sym (w .marks-is)) (sym (w .total-is)) (raised-yes (met list S u at) (met list S u r) n (c .args .from) (c .args .to) before (c .loop-at .marks) (c .loop-at .total) x (yes (alive-yes (length list) (c .args .living .now) (at - 1) le (eqb-true _ 1 (sym (c .lives .ensures) ∙ w .if-lives .taken)))) (c .pre .differ) (c .loop-at .inv .1) lx (omega (arith, c .pre .room)) (w .if-marks-w .taken))
+        | else-lives w ↦ subst₂ R (sym (w .marks-is)) (sym (w .total-is)) (elim (w .else-lives .came) [
+          | else-lives·by·then-lives·else-marks-w v ↦ raised-no (met list S u at) (met list S u r) n (c .args .from) (c .args .to) before (c .loop-at .marks) (c .loop-at .total) x (yes (alive-yes (length list) (c .args .living .now) (at - 1) le (eqb-true _ 1 (sym (c .lives .ensures) ∙ v .if-lives .taken)))) (c .pre .differ) (c .loop-at .inv .1) lx (v .if-marks-w .left)
+          | else-lives·by·else-lives v ↦ raised-same (met list S u at) (met list S u r) n (c .args .from) (c .args .to) before (c .loop-at .marks) (c .loop-at .total) (met-no list S u at r wk pos nx (alive-no (length list) (c .args .living .now) (at - 1) (eqb-false _ 1 (sym (c .lives .ensures) ∙ v .if-lives .left)))) (c .loop-at .inv .1)
         ])
-      ] )
+      ],
+    )
 
 pub returns : need.returns
 returns c =

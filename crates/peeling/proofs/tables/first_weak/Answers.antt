@@ -39,7 +39,7 @@ loop-c-again c =
     elim (c .if-living-c-eq1 .came) [
       | then-living-c-eq1·then-counts-c w ↦ subst₂ R (sym (w .taken-is)) (sym (w .tail-is)) (queue-push n (lesser n living counts k i) (c .args .taken .now) (c .loop-c .taken) 0 (c .loop-c .tail) i q (omega (arith, c .pre .takes)) (omega arith) (fresh n k i living counts (c .args .taken .now) (c .loop-c .taken) (c .loop-c .tail) q) (lesser n living counts k (i + 1)) (lesser-yes n living counts k i (omega arith) (w .if-living-c-eq1 .taken) (w .if-counts-c .taken)))
       | else-living-c-eq1 w ↦ subst₂ R (sym (w .taken-is)) (sym (w .tail-is)) (skip (elim (w .else-living-c-eq1 .came) [
-          | else-living-c-eq1·by·then-living-c-eq1·else-counts-c v ↦ λ a b. omega (arith, v .if-counts-c .left)
-          | else-living-c-eq1·by·else-living-c-eq1 v ↦ λ a b. v .if-living-c-eq1 .left a
-        ]))
+        | else-living-c-eq1·by·then-living-c-eq1·else-counts-c v ↦ λ a b. omega (arith, v .if-counts-c .left)
+        | else-living-c-eq1·by·else-living-c-eq1 v ↦ λ a b. v .if-living-c-eq1 .left a
+      ]))
     ]
