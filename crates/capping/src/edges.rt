@@ -3,11 +3,18 @@ ghost use mathlib.Core.Path.{_≡_};
 ghost use mathlib.Core.List.{_++_};
 ghost use Prim.Native.Nat.{ℕ, _+_, _<_, _≤_};
 ghost use lib.ListN.{length, take, drop};
-ghost use Rattle.graph.specs.Edges.{edges-at, edge-list};
+ghost use Rattle.graph.specs.Edges.{edge, edges-at};
 ghost use Rattle.bounds.specs.Cap.{edge-count, Edges-in};
 use graph::Listed;
 use graph::Source;
 use graph::edge::Edge;
+
+// The edge from a to b.
+fn pair(a: u16, b: u16) -> Edge
+    ensures { λ r. ⌜ r ≡ edge a b ⌝ }
+{
+    Edge { a, b }
+}
 
 // How many neighbours above it a has.
 fn count_later<S: Listed>(source: &S, a: usize) -> usize
@@ -47,10 +54,7 @@ fn write_row<S: Listed>(source: &S, a: usize, clashes: &mut [Edge], start: usize
     for i in 0..source.degree(a) {
         if let Some(b) = source.neighbour(a, i) {
             if a < b {
-                clashes[len] = Edge {
-                    a: a as u16,
-                    b: b as u16,
-                };
+                clashes[len] = pair(a as u16, b as u16);
                 len += 1;
             }
         }

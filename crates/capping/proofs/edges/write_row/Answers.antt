@@ -42,7 +42,7 @@ loop-i-again g c =
           let b = w .in-Some .b in
           let m = met-yes G a i b r (w .if-a-b .taken) in
           let l : len < length es = omega (arith, met-room G a i b r (w .if-a-b .taken), v .1, c .pre .room) in
-          subst₂ R (sym (w .clashes-is)) (sym (w .len-is)) (
+          subst₂ R (sym (w .clashes-is ∙ ap (λ (v : Edge). set es len v) (w .pair .ensures))) (sym (w .len-is)) (
             take-more-set es len (edge a b) l ∙ ap (λ (p : List Edge). p ++ edge a b ∷ []) (v .0) ∙ append-assoc front (met-edges G a i) (edge a b ∷ []) ∙ ap (λ (p : List Edge). front ++ p) (sym m),
             omega (arith, v .1, ap length m, length-push (met-edges G a i) (edge a b)),
             drop-set-lt (len + 1) es len (edge a b) (omega arith) ∙ drop-later len (len + 1) es old (omega arith) (v .2),
