@@ -4,7 +4,7 @@ ghost use mathlib.Core.List.{_++_};
 ghost use Prim.Native.Nat.{ℕ, _+_, _<_, _≤_};
 ghost use lib.ListN.{length, take, drop};
 ghost use Rattle.graph.specs.Edges.{edge, edges-at};
-ghost use Rattle.bounds.specs.Cap.{edge-count, Edges-in};
+ghost use Rattle.caps.specs.Cap.{edge-count, Edges-in};
 use graph::Listed;
 use graph::Source;
 use graph::edge::Edge;

@@ -6,7 +6,7 @@ ghost use lib.Dec.{ltb};
 ghost use lib.ListN.{length, getD};
 ghost use Rattle.std.specs.Options.{Cases as BySome};
 ghost use Rattle.std.specs.Results.{Cases};
-ghost use Rattle.bounds.specs.Cap.{Capped-in, Cap-fits, Cap-refused};
+ghost use Rattle.caps.specs.Cap.{Capped-in, Cap-fits, Cap-refused};
 use communities::Below;
 use communities::EdgesPeeled;
 use edges::edge_total;

@@ -9,8 +9,8 @@ use lib.ListN.{length, getD, take}
 use Rattle.graph.specs.declared.refusal.Refusal.{Refusal}
 use Rattle.graph.specs.Graph.{vertices}
 use Rattle.peeling.specs.Peeling.{Peel-refused}
-use Rattle.bounds.specs.Cap.{edge-count}
-use Rattle.bounds.proofs.Caps.{degeneracy-le, none-listed, cap-empty, cap-plain, capped-none, capped-edged, listing, written, deepest-of, number-le}
+use Rattle.caps.specs.Cap.{edge-count}
+use Rattle.caps.proofs.Caps.{degeneracy-le, none-listed, cap-empty, cap-plain, capped-none, capped-edged, listing, written, deepest-of, number-le}
 use Rattle.capping.proofs.cap.Needs as need
 
 -- with room enough, and a list as it has to be, peeling is not refused

@@ -7,7 +7,7 @@ use Rattle.std.proofs.shelf.Lists.{length-push}
 use Rattle.graph.specs.Edges.{edge}
 use Rattle.graph.proofs.Graphs.{inside-le}
 use lib.Dec.{ltb}
-use Rattle.bounds.proofs.Rows.{met-edges, met-none, met-yes, met-no, met-all, met-le, row-length}
+use Rattle.caps.proofs.Rows.{met-edges, met-none, met-yes, met-no, met-all, met-le, row-length}
 use Rattle.capping.proofs.edges.count_later.Needs as need
 use Rattle.capping.proofs.edges.count_later.Needs.{in-Some·then-a-b, in-Some·else-a-b, in-rest}
 

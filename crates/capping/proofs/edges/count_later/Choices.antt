@@ -1,6 +1,6 @@
 use mathlib.Core.Path.{_≡_}
 use lib.ListN.{length}
-use Rattle.bounds.proofs.Rows.{met-edges}
+use Rattle.caps.proofs.Rows.{met-edges}
 use Rattle.capping.proofs.edges.count_later.Given as given
 
 abbrev pub Inv-loop-i : given.InvT-loop-i

@@ -4,7 +4,7 @@ use Prim.Native.Nat.{ℕ, _+_, _<_, _≤_}
 use native.Mathlib.Omega.{arith}
 use lib.ListN.{length}
 use Rattle.graph.specs.Edges.{edges-below}
-use Rattle.bounds.proofs.Rows.{below-none, below-length, below-le}
+use Rattle.caps.proofs.Rows.{below-none, below-length, below-le}
 use Rattle.capping.proofs.edges.edge_total.Needs as need
 
 pub loop-a-holds : need.loop-a-holds

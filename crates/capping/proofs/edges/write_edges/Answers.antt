@@ -7,8 +7,8 @@ use lib.ListN.{length, take, drop}
 use Rattle.graph.specs.declared.edge.Edge.{Edge}
 use Rattle.graph.specs.Edges.{edges-at, edges-below, edge-list}
 use Rattle.supports.proofs.Queues.{drop-later}
-use Rattle.bounds.specs.Cap.{edge-count}
-use Rattle.bounds.proofs.Rows.{below-none, below-more, below-length, below-mono}
+use Rattle.caps.specs.Cap.{edge-count}
+use Rattle.caps.proofs.Rows.{below-none, below-more, below-length, below-mono}
 use Rattle.capping.proofs.edges.write_edges.Needs as need
 
 pub loop-a-holds : need.loop-a-holds

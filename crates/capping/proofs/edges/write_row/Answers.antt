@@ -8,7 +8,7 @@ use Rattle.std.proofs.shelf.Lists.{length-push, append-nil, take-more-set, drop
 use Rattle.graph.specs.declared.edge.Edge.{Edge}
 use Rattle.graph.specs.Edges.{edge, edges-at}
 use Rattle.supports.proofs.Queues.{drop-later}
-use Rattle.bounds.proofs.Rows.{met-edges, met-none, met-yes, met-no, met-all, met-room}
+use Rattle.caps.proofs.Rows.{met-edges, met-none, met-yes, met-no, met-all, met-room}
 use Rattle.capping.proofs.edges.write_row.Needs as need
 use Rattle.capping.proofs.edges.write_row.Needs.{in-Some·then-a-b, in-Some·else-a-b, in-rest}
 

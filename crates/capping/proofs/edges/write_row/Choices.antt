@@ -2,7 +2,7 @@ use mathlib.Core.Path.{_≡_}
 use mathlib.Core.List.{_++_}
 use Prim.Native.Nat.{_+_}
 use lib.ListN.{length, take, drop}
-use Rattle.bounds.proofs.Rows.{met-edges}
+use Rattle.caps.proofs.Rows.{met-edges}
 use Rattle.capping.proofs.edges.write_row.Given as given
 
 abbrev pub Inv-loop-i : given.InvT-loop-i

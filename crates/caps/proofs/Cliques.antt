@@ -21,8 +21,8 @@ use Rattle.supports.proofs.Draining.{but-self, but-same}
 use Rattle.cohesion.specs.Community.{Tight, Has-edge, Is-community-number}
 use Rattle.cohesion.proofs.Places.{joins-place}
 use Rattle.cohesion.proofs.Bridge.{number-one}
-use Rattle.bounds.specs.Cap.{edge-count, Smaller-bound, Is-cap}
-use Rattle.bounds.specs.Theorems.{Cap-bounds, Clique-community, One-cap}
+use Rattle.caps.specs.Cap.{edge-count, Smaller-bound, Is-cap}
+use Rattle.caps.specs.Theorems.{Cap-bounds, Clique-community, One-cap}
 
 -- a set with a number has a member
 pub member-of : (s : ℕ → Bool) (n : ℕ) → 0 < count s n → (c : ℕ) × (c < n) × (s c ≡ true)

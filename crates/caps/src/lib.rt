@@ -1,5 +1,5 @@
 //! What cores, communities and the bound say of cliques and colourings.
-ghost use Rattle.bounds.specs.Theorems.{Cores-shrink, Communities-shrink, One-number, One-cap, Clique-community, Cap-bounds, Core-rule};
+ghost use Rattle.caps.specs.Theorems.{Cores-shrink, Communities-shrink, One-number, One-cap, Clique-community, Cap-bounds, Core-rule};
 
 /// Cores and communities shrink as the threshold grows, and a graph has one community number.
 pub fn levels_stand() -> u8

@@ -1,7 +1,7 @@
 use Rattle.graph.specs.Graph.{held, inside}
 use Rattle.supports.proofs.Peels.{shrinks}
 use Rattle.cohesion.proofs.Bridge.{communities-shrink, number-one}
-use Rattle.bounds.proofs.levels_stand.Needs as need
+use Rattle.caps.proofs.levels_stand.Needs as need
 
 pub returns : need.returns
 returns c =

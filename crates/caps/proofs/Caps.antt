@@ -27,7 +27,7 @@ use Rattle.cohesion.specs.Common.{edge-at, linked, common, Listing}
 use Rattle.cohesion.proofs.Places.{ends-own, joins-place, place-joins, place-one}
 use Rattle.cohesion.proofs.Links.{linked-true, linked-from, common-le}
 use Rattle.cohesion.proofs.Bridge.{everywhere, largest-community, deepest-number, number-one}
-use Rattle.bounds.specs.Cap.{edge-count, Smaller-bound, Is-cap, Edges-in, Capped-in}
+use Rattle.caps.specs.Cap.{edge-count, Smaller-bound, Is-cap, Edges-in, Capped-in}
 
 pub degeneracy-le : (g : Graph) (d : ℕ) → Is-degeneracy g d → d ≤ g .size
 degeneracy-le g d h = h .least (g .size) (λ s w a y. (a, y, inside-le g s a))

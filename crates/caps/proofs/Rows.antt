@@ -19,7 +19,7 @@ use Rattle.graph.specs.declared.edge.Edge.{Edge}
 use Rattle.graph.specs.Graph.{Graph, Lawful, held, clash, inside, degree}
 use Rattle.graph.specs.Edges.{edge, edges-at, edges-below, edge-list}
 use Rattle.cohesion.proofs.Near.{near, At-rank, near-none, near-yes, near-no, near-all, near-count-all}
-use Rattle.bounds.specs.Cap.{edge-count, Edges-in}
+use Rattle.caps.specs.Cap.{edge-count, Edges-in}
 
 members-same : (p q : ℕ → Bool) (n : ℕ) → ((c : ℕ) → c < n → p c ≡ q c) → members p n ≡ members q n
 unfolding members

@@ -9,7 +9,7 @@ use Rattle.graph.specs.Cliques.{Clique, Clique-of}
 use Rattle.graph.specs.Colourings.{Colourable, Colourable-in}
 use Rattle.graph.specs.Degeneracy.{Core-of}
 use Rattle.cohesion.specs.Community.{Tight, Community-of, Has-edge, Is-community-number}
-use Rattle.bounds.specs.Cap.{Is-cap}
+use Rattle.caps.specs.Cap.{Is-cap}
 
 -- cores shrink as t grows
 abbrev pub Cores-shrink : Type 0

@@ -17,7 +17,7 @@ use Rattle.graph.proofs.Graphs.{held-below, inside-mono}
 use Rattle.colourings.proofs.Coloured.{coloured-fewer, coloured-same, coloured-add, free-colour, painted, painted-at, painted-off}
 use Rattle.supports.specs.Peel.{but}
 use Rattle.supports.proofs.Draining.{but-self, but-same, but-other}
-use Rattle.bounds.specs.Theorems.{Core-rule}
+use Rattle.caps.specs.Theorems.{Core-rule}
 
 colours-fewer : (g : Graph) (s u : ℕ → Bool) (k : ℕ) → Within u s → Colourable-in g s k → Colourable-in g u k
 colours-fewer g s u k w c = (c .0, coloured-fewer g u s k (c .0) w (c .1))
