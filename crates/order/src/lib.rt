@@ -7,6 +7,7 @@ ghost use Rattle.std.specs.Options.{Cases as BySome};
 ghost use Rattle.std.specs.Results.{Cases};
 ghost use Rattle.finite.specs.Finite.{Fewest};
 ghost use Rattle.graph.specs.Graph.{held, clash, degree, vertices};
+ghost use Rattle.graph.specs.Degeneracy.{Is-degeneracy};
 ghost use Rattle.degeneracy.specs.Theorems.{One-order, Peak-is-degeneracy, One-degeneracy, Degeneracy-is-core, None-held};
 ghost use Rattle.order.specs.Order.{Ordered-in, Order-refused};
 use graph::Listed;
@@ -134,6 +135,15 @@ fn copy_front(from: &[u16], to: &mut [u16], len: usize)
     for i in 0..len {
         to[i] = from[i];
     }
+}
+
+/// How many vertices any graph has, however dense, and its degeneracy.
+pub fn degeneracy<S: Listed>(source: &S) -> Ordered
+    ensures len { λ o. ⌜ o .len ≡ vertices (S·Source .graph (now (source .entry))) ⌝ }
+    ensures degeneracy { λ o. ⌜ Is-degeneracy (S·Source .graph (now (source .entry))) (o .degeneracy) ⌝ }
+{
+    let mut table = [0u16; 1024];
+    remove_all(source, &mut table)
 }
 
 /// Writes the removal order into the first places of `order`, and says how long it is and the degeneracy.

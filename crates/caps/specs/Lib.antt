@@ -1,0 +1,2 @@
+pub mod Cap
+pub mod Theorems

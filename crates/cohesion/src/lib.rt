@@ -1,0 +1,1 @@
+//! The theory of cores and communities.
