@@ -42,7 +42,7 @@ found c =
     let f = c .args .form .now in
     let g = listed (vec-items (f .offsets)) (vec-items (f .neighbours)) in
     let e = front-is (c .plan .last .order) (c .in-Continue-planned .planned .len) in
-    c .in-Continue-count .ensures tt .cases .1 (order-once g _ (subst (Is-order g) (sym e) (c .in-Continue-planned .ensures tt .0 .ordered .order)))
+    c .in-Continue-count .ensures tt .cases .2 (order-once g _ (subst (Is-order g) (sym e) (c .in-Continue-planned .ensures tt .0 .ordered .order)))
 
 few : (c : In-Continue-count) → c .in-Continue-count .count ≤ 64
 few c = c .in-Continue-count .ensures tt .cases .0
