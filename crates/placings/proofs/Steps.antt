@@ -18,7 +18,7 @@ use Rattle.finite.proofs.Counts.{count-le, count-less, count-pos}
 use Rattle.finite.proofs.Masks.{bit-none}
 use Rattle.placings.specs.Rows.{Even, Loopless}
 use Rattle.placings.specs.Colours.{Colours, Extends, at}
-use Rattle.placings.specs.Tries.{blank, Ready, Filled, Stuck, Stuck-past, Stuck-in, Left, Open, Found, Impossible}
+use Rattle.placings.specs.Tries.{blank, Ready, Filled, Stuck, Stuck-past, Stuck-in, Left, Open}
 use Rattle.placings.proofs.Swaps.{cut}
 
 -- what stands in the table once d is put at c

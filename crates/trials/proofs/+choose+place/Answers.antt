@@ -125,3 +125,13 @@ pub place-returns-in-Some : need.place-returns-in-Some
 place-returns-in-Some t c =
     let q = c .args .kernel .now in
     placed-cut (places q) (joined q) (c .args .k) (c .in-Some .c) (c .args .used) (c .open-left .result) (c .args .table .now) (c .choose .last .table) (c .choose .result) (c .pre) (c .in-Some .ensures tt .0) (c .open-left .ensures) (c .choose .ensures)
+
+pub choose-returns-then-place : need.choose-returns-then-place
+choose-returns-then-place t c =
+    let q = c .args .kernel .now in
+    filled-back (places q) (joined q) (c .args .k) (c .args .c) (c .args .base + c .lowest-j .result + 1) (c .args .table .now) (c .place .last .table) (c .pre .place) (c .if-place .ensures tt)
+
+pub place-returns-in-None : need.place-returns-in-None
+place-returns-in-None t c =
+    let q = c .args .kernel .now in
+    filled-all (places q) (joined q) (c .args .k) (c .args .used) (c .args .table .now) (c .pre) (c .in-None .ensures tt)
