@@ -7,7 +7,7 @@ use native.Mathlib.Omega.{arith}
 use lib.Dec.{eqb}
 use Rattle.std.proofs.shelf.Tests.{cases-lt}
 use Rattle.std.proofs.shelf.Ways.{tells}
-use Rattle.placings.specs.Colours.{Colours, Agree}
+use Rattle.placings.specs.Colours.{Colours, Extends}
 
 pub swapped : ℕ → ℕ → ℕ → ℕ
 swapped x y v = cond (eqb v x) y (cond (eqb v y) x v)
@@ -41,12 +41,12 @@ colours-swap n k x y E f xl xh yl yh h =
     }
 
 -- a colour beyond the first new one could change places with that
-pub cut : (n : ℕ) (E : ℕ → ℕ → Bool) (k c used : ℕ) (front : ℕ → ℕ) → c < n → ((i : ℕ) → i < c → front i ≤ used) → ((f : ℕ → ℕ) → Colours n E k f → Agree c f front → f c ≤ used + 1 → ⊥) → (f : ℕ → ℕ) → Colours n E k f → Agree c f front → ⊥
-cut n E k c used front l capped no-low f h same =
+pub cut : (n : ℕ) (E : ℕ → ℕ → Bool) (k c used : ℕ) (given : ℕ → ℕ) → c < n → ((i : ℕ) → i < n → given i ≤ used) → ((f : ℕ → ℕ) → Colours n E k f → Extends n f given → f c ≤ used + 1 → ⊥) → (f : ℕ → ℕ) → Colours n E k f → Extends n f given → ⊥
+cut n E k c used given l capped no-low f h same =
     elim (cases-lt (used + 1) (f c)) [
       | inr m ↦ no-low f h same m
       | inl m ↦ let hi = h .high c l in
           let e = swapped-first (f c) (used + 1) in
           no-low (λ i. swapped (f c) (used + 1) (f i)) (colours-swap n k (f c) (used + 1) E f (omega arith) hi (omega arith) (omega arith) h)
-          (λ i o. let z = same i o in let w = capped i o in swapped-off (f c) (used + 1) (f i) (λ u. omega arith) (λ u. omega arith) ∙ z) (omega arith)
+          (λ i o ne. let z = same i o ne in let w = capped i o in swapped-off (f c) (used + 1) (f i) (λ u. omega arith) (λ u. omega arith) ∙ z) (omega arith)
     ]

@@ -70,18 +70,18 @@ gathered-all members table from base rest m s z =
     record { some = s .some; all = λ v j y l e. s .all v j y (bit-none rest v z) l e }
 
 -- row c word by word
-pub near-none : (E : ℕ → ℕ → Bool) (table : List ℕ) (c base : ℕ) → Near E table c 0 base 0
-near-none E table c base =
+pub near-none : (n : ℕ) (E : ℕ → ℕ → Bool) (table : List ℕ) (c base : ℕ) → Near n E table c 0 base 0
+near-none n E table c base =
     record { some = λ j y. absurd (both-ways (bit 0 j) (bit-zero j) y); all = λ v j l m. absurd (omega arith) }
 
-pub near-more : (rows table : List ℕ) (c w base front m worn : ℕ) → Near (linked rows) table c (64 * w) base m → ((j : ℕ) → bit front j ≡ (bit (getD rows (4 * c + w) 0) j && ltb j (min (c - 64 * w) 64))) → Worn front table (64 * w) base worn → Near (linked rows) table c (64 * (w + 1)) base (bitOr m worn)
-near-more rows table c w base front m worn s is g =
+pub near-more : (n : ℕ) (rows table : List ℕ) (c w base front m worn : ℕ) → Near n (linked rows) table c (64 * w) base m → ((j : ℕ) → bit front j ≡ (bit (getD rows (4 * c + w) 0) j && ltb j (min (n - 64 * w) 64))) → Worn front table (64 * w) base worn → Near n (linked rows) table c (64 * (w + 1)) base (bitOr m worn)
+near-more n rows table c w base front m worn s is g =
     record {
       some = λ j y. elim (or-cases (bit m j) (bit worn j) (sym (bit-or m worn j) ∙ y)) [
         | inl h ↦ s .some j h
         | inr h ↦ let u = g .some j h in
-            let p = and-parts (bit (getD rows (4 * c + w) 0) (u .0)) (ltb (u .0) (min (c - 64 * w) 64)) (sym (is (u .0)) ∙ u .1) in
-            let l = ltb-true (u .0) (min (c - 64 * w) 64) (p .1) in
+            let p = and-parts (bit (getD rows (4 * c + w) 0) (u .0)) (ltb (u .0) (min (n - 64 * w) 64)) (sym (is (u .0)) ∙ u .1) in
+            let l = ltb-true (u .0) (min (n - 64 * w) 64) (p .1) in
             let a : (64 * w + u .0) / 64 ≡ w = omega arith in
             let b : (64 * w + u .0) % 64 ≡ u .0 = omega arith in
             (64 * w + u .0, omega arith, rw (a, b) (p .0), u .2)
@@ -92,19 +92,19 @@ near-more rows table c w base front m worn s is g =
             let i : v / 64 ≡ w = omega arith in
             let o : v % 64 ≡ u = omega arith in
             let r : 64 * w + u ≡ v = omega arith in
-            let b : bit front u ≡ true = is u ∙ and-from (bit (getD rows (4 * c + w) 0) u) (ltb u (min (c - 64 * w) 64)) (rw (i, o) at y) (lt-ltb u (min (c - 64 * w) 64) (omega arith)) in
+            let b : bit front u ≡ true = is u ∙ and-from (bit (getD rows (4 * c + w) 0) u) (ltb u (min (n - 64 * w) 64)) (rw (i, o) at y) (lt-ltb u (min (n - 64 * w) 64) (omega arith)) in
             let z = g .all u j b h (ap (at table) r ∙ q) in
             bit-or m worn j ∙ grind (arith, tells)
       ];
     }
 
-pub near-past : (E : ℕ → ℕ → Bool) (table : List ℕ) (c w base m : ℕ) → Near E table c (64 * w) base m → c ≤ 64 * w → Near E table c (64 * (w + 1)) base m
-near-past E table c w base m s l =
+pub near-past : (n : ℕ) (E : ℕ → ℕ → Bool) (table : List ℕ) (c w base m : ℕ) → Near n E table c (64 * w) base m → n ≤ 64 * w → Near n E table c (64 * (w + 1)) base m
+near-past n E table c w base m s l =
     record { some = s .some; all = λ v j a b y h q. s .all v j a (omega arith) y h q }
 
 -- those that are free
-pub open-from : (E : ℕ → ℕ → Bool) (table : List ℕ) (c base top low near m : ℕ) → Near E table c 256 base near → c ≤ 256 → ((j : ℕ) → bit low j ≡ ltb j (min (top - base) 64)) → ((j : ℕ) → bit m j ≡ (bit low j && not (bit near j))) → Open E table c base top m
-open-from E table c base top low near m s cl lows is =
+pub open-from : (n : ℕ) (E : ℕ → ℕ → Bool) (table : List ℕ) (c base top low near m : ℕ) → Near n E table c 256 base near → n ≤ 256 → ((j : ℕ) → bit low j ≡ ltb j (min (top - base) 64)) → ((j : ℕ) → bit m j ≡ (bit low j && not (bit near j))) → Open n E table c base top m
+open-from n E table c base top low near m s nl lows is =
     let parts : (j : ℕ) → bit m j ≡ true → (j < min (top - base) 64) × (bit near j ≡ false) = λ j y. (let p = and-parts (bit low j) (not (bit near j)) (sym (is j) ∙ y) in (ltb-true j (min (top - base) 64) (sym (lows j) ∙ p .0), not-true (bit near j) (p .1))) in
     record {
       left = record {

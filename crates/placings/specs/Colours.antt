@@ -15,6 +15,6 @@ pub record Colours (n : ℕ) (E : ℕ → ℕ → Bool) (k : ℕ) (f : ℕ → �
 abbrev pub at : List ℕ → ℕ → ℕ
 at table i = getD table i 0
 
--- the places below c have the same in both
-abbrev pub Agree : ℕ → (ℕ → ℕ) → (ℕ → ℕ) → Type 0
-Agree c f h = (i : ℕ) → i < c → f i ≡ h i
+-- f has the colours that are given so far, 0 where none is
+abbrev pub Extends : ℕ → (ℕ → ℕ) → (ℕ → ℕ) → Type 0
+Extends n f given = (i : ℕ) → i < n → (given i ≡ 0 → ⊥) → f i ≡ given i
