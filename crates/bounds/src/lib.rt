@@ -1,4 +1,6 @@
 // Bounds on the size of the cliques of a picture.
+#![tactic(auto)]
+
 mod bound;
 mod by_class;
 mod by_size;

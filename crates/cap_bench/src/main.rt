@@ -1,5 +1,7 @@
 // Measures the cap: reads a sheet of any length, finds its stock's cap a hundred times, and prints it with the number
 // of clashes in the last community. A measurement, no part of what is promised.
+#![tactic(auto)]
+
 use capping::cap;
 use graph::edge::Edge;
 use graph::refusal::Refusal;

@@ -1,4 +1,6 @@
 //! A bound on the cliques of a graph: the smaller of degeneracy + 1 and community number + 2.
+#![tactic(auto)]
+
 ghost use Rattle.std.specs.Prelude.{◌≡◌, ℕ, ◌≤◌, min, length, if◌then◌else◌, MatchOption, MatchResult, nat_lt, slice_index};
 ghost use Rattle.caps.specs.Cap.{CappedIn, CapFits, CapRefused};
 

@@ -1,4 +1,6 @@
 //! What cores, communities and the bound say of cliques and colourings.
+#![tactic(auto)]
+
 ghost use Rattle.caps.specs.Theorems.{CoresShrink, CommunitiesShrink, OneNumber, OneCap, CliqueCommunity, CapBounds, CoreRule};
 
 /// Cores and communities shrink as the threshold grows, and a graph has one community number.

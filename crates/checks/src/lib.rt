@@ -1,4 +1,6 @@
 //! Stocks and sheets with the answers that they are due.
+#![tactic(auto)]
+
 #[cfg(test)]
 mod faulty;
 #[cfg(test)]

@@ -1,4 +1,6 @@
 // Reads a sheet on standard input, and prints its stock as a clean sheet.
+#![tactic(auto)]
+
 use printout::{LIMIT, clean_sheet};
 use std::io;
 use std::io::{Read, Write};

@@ -1,4 +1,6 @@
 // The climb: a largest clique of a graph, vertex by vertex from the end of an order.
+#![tactic(auto)]
+
 ghost use Rattle.std.specs.Prelude.{◌≡◌, ℕ, ◌<◌, ◌≤◌, true, length, take, is_ok, MatchOption, MatchResult};
 ghost use Rattle.climbing.specs.Climbs.{BlockIn, ClimbRefused, Climbs, EachOnce, FewLater, Searched, StepRefused, later_list, picked, plus};
 ghost use Rattle.degeneracy.specs.Order.{IsOrder, IsPeak};

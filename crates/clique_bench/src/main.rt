@@ -1,5 +1,7 @@
 // Reads a sheet on standard input and searches its stock for a largest clash set, as often as it is told; prints how many
 // cartridges the set has. The arguments are the bound, `size`, `class` or `two`, and how often to search.
+#![tactic(auto)]
+
 use anyhow::{Context, anyhow};
 use bounds::{Bound, ClassBound, SizeBound};
 use climb::climb_all;

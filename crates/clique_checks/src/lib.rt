@@ -1,4 +1,6 @@
 //! The clique search beside a search of all sets.
+#![tactic(auto)]
+
 #[cfg(test)]
 mod exhaustive;
 #[cfg(test)]

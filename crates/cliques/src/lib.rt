@@ -1,4 +1,6 @@
 // A largest clique of a picture, by a search that any bound cuts short.
+#![tactic(auto)]
+
 ghost use Rattle.std.specs.Prelude.{◌≡◌, ◌<◌, true, false, ◌&&◌, nat_lt};
 ghost use Rattle.finite.specs.Finite.{count};
 ghost use Rattle.finite.specs.Masks.{bit};

@@ -1,1 +1,3 @@
 //! The theory of cores and communities.
+
+#![tactic(auto)]

@@ -1,4 +1,6 @@
 //! The theory of colourings.
+#![tactic(auto)]
+
 ghost use Rattle.colourings.specs.Theorems.{UsesAll};
 
 /// Where one colour fewer does not suffice, every colour is used.

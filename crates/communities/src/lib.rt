@@ -1,4 +1,6 @@
 //! The edges of a graph as items: the support of an edge is how many vertices living edges join to both its ends.
+#![tactic(auto)]
+
 ghost use Rattle.std.specs.Prelude.{◌≡◌, ℕ, ◌+◌, ◌<◌, ◌≤◌, true, false, cond, ◌&&◌, length};
 ghost use Rattle.finite.specs.Finite.{count};
 ghost use Rattle.supports.specs.Peel.{alive};

@@ -1,4 +1,6 @@
 //! The cores of a graph.
+#![tactic(auto)]
+
 ghost use Rattle.std.specs.Prelude.{◌≡◌, ℕ, ◌<◌, ◌≤◌, true, false, length, if◌then◌else◌, MatchResult, nat_lt, slice_index};
 ghost use Rattle.graph.specs.Graph.{held};
 ghost use Rattle.cores.specs.Cores.{CoreIn, CoreRefused};

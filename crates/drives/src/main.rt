@@ -1,4 +1,6 @@
 // The sizing program: reads a sheet on standard input, and prints the first plan of its stock.
+#![tactic(auto)]
+
 use printout::LIMIT;
 use sizing::respond;
 use std::io;

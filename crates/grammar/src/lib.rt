@@ -1,4 +1,6 @@
 //! The meaning of lines and sheets.
+#![tactic(auto)]
+
 ghost use Rattle.grammar.specs.Theorems.{ReadAsStated, StatedAsRead, OneStock, HasSheet};
 
 // What a line of a sheet is, by its letter.

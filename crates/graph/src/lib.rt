@@ -1,3 +1,5 @@
+#![tactic(auto)]
+
 ghost use Rattle.std.specs.Prelude.{◌≡◌, ℕ, ◌<◌, ◌≤◌, true, false, MatchOption};
 ghost use Rattle.finite.specs.Finite.{count, members, nth};
 ghost use Rattle.graph.specs.Graph.{Graph, Lawful, held, clash, degree};

@@ -1,4 +1,6 @@
 // The theory of small graphs as rows of masks: classes, and pairs of parts.
+#![tactic(auto)]
+
 ghost use Rattle.std.specs.Prelude.{◌≡◌, ℕ, ◌<◌, ◌≤◌, Bool, true, List, length, ◌≢◌};
 ghost use Rattle.finite.specs.Finite.{count};
 ghost use Rattle.finite.specs.Masks.{bit};

@@ -1,4 +1,6 @@
 //! Which places have the most colours around them: hints for the order of the trial, on which no answer rests.
+#![tactic(auto)]
+
 ghost use Rattle.std.specs.Prelude.{◌<◌};
 
 use kernels::Kernel;

@@ -1,4 +1,6 @@
 //! Items with a support.
+#![tactic(auto)]
+
 ghost use Rattle.std.specs.Prelude.{◌≡◌, ℕ, ◌<◌, ◌≤◌, Bool, true, false, List, length, take};
 ghost use Rattle.finite.specs.Supports.{Falls};
 ghost use Rattle.supports.specs.Peel.{Losers, alive};

@@ -1,4 +1,6 @@
 // A graph as a mask of jobs for each vertex.
+#![tactic(auto)]
+
 ghost use Rattle.std.specs.Prelude.{◌≡◌, ℕ, ◌<◌, ◌≤◌, true, false, [], length, MatchOption, MatchResult};
 ghost use Rattle.finite.specs.Finite.{count, members, nth};
 ghost use Rattle.graph.specs.Graph.{clash, degree, edges};

@@ -1,4 +1,6 @@
 // Shows the trial of a sheet's stock: reads a sheet on standard input, and prints each number of drives that is tried.
+#![tactic(auto)]
+
 use printout::LIMIT;
 use std::io;
 use std::io::{Read, Write};

@@ -1,4 +1,6 @@
 // A layer that hides vertices of the source below it.
+#![tactic(auto)]
+
 ghost use Rattle.std.specs.Prelude.{◌≡◌, ℕ, ◌≤◌, true, false, not, ◌&&◌, ◌||◌, length, MatchResult, ◌==◌};
 ghost use Rattle.graph.specs.Hiding.{without, marked, Hides, Shows, hide_answer, show_answer};
 ghost use Rattle.std.proofs.Common.{rules, arith};

@@ -1,4 +1,6 @@
 // Masks of 64 places as sets of numbers: the contracts speak of `bit` and `count` alone.
+#![tactic(auto)]
+
 ghost use Rattle.std.specs.Prelude.{ℕ, ◌^◌, ◌<◌, ◌≤◌, eqb, ltb, ◌&&◌, ◌||◌, not, true, false, ◌≡◌};
 ghost use Rattle.finite.specs.Finite.{count};
 ghost use Rattle.finite.specs.Masks.{bit};

@@ -1,4 +1,6 @@
 //! The order in which the vertices of a graph are removed, fewest living neighbours first.
+#![tactic(auto)]
+
 ghost use Rattle.std.specs.Prelude.{◌≡◌, ℕ, ◌+◌, ◌<◌, ◌≤◌, true, false, length, get_or, take, drop, if◌then◌else◌, MatchOption, MatchResult, slice_index, slice_index_or};
 ghost use Rattle.finite.specs.Finite.{Fewest};
 ghost use Rattle.graph.specs.Graph.{held, clash, degree, vertices};

@@ -1,4 +1,6 @@
 //! Worked and generated stocks for peeling, the cap, the kernel's trial and putting back.
+#![tactic(auto)]
+
 #[cfg(test)]
 mod back;
 #[cfg(test)]

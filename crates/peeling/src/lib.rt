@@ -1,4 +1,6 @@
 //! Peeling: taking out items with little support until none is left.
+#![tactic(auto)]
+
 ghost use Rattle.std.specs.Prelude.{◌≡◌, ◌≤◌, length, MatchOption, MatchResult};
 ghost use Rattle.supports.specs.Peel.{Counted, PeeledIn};
 ghost use Rattle.supports.specs.Levels.{DeepestIn};

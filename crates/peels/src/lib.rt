@@ -1,4 +1,6 @@
 //! The theory of taking vertices out and putting them back.
+#![tactic(auto)]
+
 ghost use Rattle.peels.specs.Theorems.{KernelTells, LeastColours, UsedSuffice, OneWayBack, BackColoured, PictureTells};
 
 /// What is left after peeling at the size of a clique decides from there on.

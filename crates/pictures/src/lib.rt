@@ -1,4 +1,6 @@
 // Small graphs of at most 64 places.
+#![tactic(auto)]
+
 mod drawing;
 mod listing;
 mod shape;

@@ -1,4 +1,6 @@
 //! The first plan: a greedy colouring, back through the removal order.
+#![tactic(auto)]
+
 ghost use Rattle.std.specs.Prelude.{◌≡◌, ℕ, ◌<◌, ◌≤◌, true, false, ◌⊎◌, length, drop, MatchResult, slice_index, slice_index_or};
 ghost use Rattle.graph.specs.Graph.{held};
 ghost use Rattle.colourings.specs.Theorems.{CliqueNeeds};

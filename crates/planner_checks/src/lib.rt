@@ -1,4 +1,6 @@
 //! The planner's calls on small stocks, with the answers that they are due.
+#![tactic(auto)]
+
 #[cfg(test)]
 mod buffers;
 #[cfg(test)]

@@ -1,4 +1,6 @@
 //! What the program prints.
+#![tactic(auto)]
+
 ghost use Rattle.std.specs.Prelude.{◌≡◌, IfOk, MatchResult};
 ghost use Rattle.graph.specs.Refusals.{number};
 ghost use Rattle.printout.specs.Printed.{Prints, printed, refusal};

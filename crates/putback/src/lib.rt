@@ -1,4 +1,6 @@
 //! Colours for the vertices that were taken out.
+#![tactic(auto)]
+
 ghost use Rattle.std.specs.Prelude.{◌≡◌, ℕ, ◌<◌, ◌≤◌, true, false, length, MatchResult, slice_index, slice_index_or};
 ghost use Rattle.degeneracy.specs.Greedy.{Lowest};
 ghost use Rattle.finite.specs.Finite.{has};

@@ -1,4 +1,6 @@
 //! The lines of a sheet, read and tested one by one.
+#![tactic(auto)]
+
 ghost use Rattle.std.specs.Prelude.{◌≡◌, ℕ, ◌+◌, ◌^◌, ◌<◌, ◌≤◌, true, false, cond, List, [], length, MatchResult, nat_lt};
 ghost use Rattle.fields.specs.Parts.{parts};
 ghost use Rattle.graph.specs.declared.edge.Edge.{Edge as Pair};

@@ -1,4 +1,6 @@
 //! Strings of calls, from the opening of a planner on.
+#![tactic(auto)]
+
 mod nothing;
 mod spare;
 mod strings;

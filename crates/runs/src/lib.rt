@@ -1,4 +1,6 @@
 //! The theory of strings of calls.
+#![tactic(auto)]
+
 ghost use Rattle.calls.specs.Laws.{ReportsRight, FloorsLow, CoursesProve, RunsRight};
 
 /// Where every reply is the one due at its point, each proved report is right, no floor is above degeneracy + 1, each

@@ -1,4 +1,6 @@
 // The theory of the search for a largest clique of a picture.
+#![tactic(auto)]
+
 ghost use Rattle.std.specs.Prelude.{ℕ};
 ghost use Rattle.finite.specs.Finite.{count};
 ghost use Rattle.finite.specs.Masks.{bit};

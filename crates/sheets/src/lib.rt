@@ -1,4 +1,6 @@
 //! Sheets read into list forms, and written again.
+#![tactic(auto)]
+
 mod laying_out;
 mod loading;
 mod rounds;

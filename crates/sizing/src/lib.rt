@@ -1,4 +1,6 @@
 //! What the program prints of a stock.
+#![tactic(auto)]
+
 ghost use Rattle.std.specs.Prelude.{◌≡◌, ◌≤◌, ◌⊎◌, length, take, IfOk, MatchResult};
 ghost use Rattle.graph.specs.Refusals.{number};
 ghost use Rattle.printout.specs.Printed.{refusal};

@@ -1,4 +1,6 @@
 //! Clashes are counted first, and then laid into rows: the two states of filling a list form.
+#![tactic(auto)]
+
 mod laying;
 mod state;
 

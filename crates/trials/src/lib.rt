@@ -1,4 +1,6 @@
 //! The trial: whether a kernel has a proper colouring in 1 to k.
+#![tactic(auto)]
+
 ghost use Rattle.std.specs.Prelude.{◌≡◌, ℕ, ◌+◌, ◌<◌, ◌≤◌, true, length, MatchResult};
 ghost use Rattle.finite.specs.Masks.{bit};
 ghost use Rattle.kernels.specs.Kernels.{joined, places};

@@ -1,4 +1,6 @@
 //! Trying the kernel of a stock from the block's size on, and what is printed of it.
+#![tactic(auto)]
+
 ghost use Rattle.std.specs.Prelude.{◌≡◌, ◌≤◌, ◌⊎◌, IfOk, MatchResult};
 ghost use Rattle.graph.specs.Refusals.{number};
 ghost use Rattle.printout.specs.Printed.{refusal};

@@ -1,4 +1,6 @@
 // The two-part bound.
+#![tactic(auto)]
+
 ghost use Rattle.std.specs.Prelude.{ℕ};
 ghost use Rattle.grids.specs.Largest.{IsLargest};
 ghost use Rattle.pictures.specs.declared.shape.Picture.{Picture as Drawing};
