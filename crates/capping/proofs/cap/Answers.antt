@@ -23,57 +23,57 @@ returns-then-found-eq0 g c =
     let lw = g.met.S.Source.lawful c.args.source.now in
     let v : vertices G ≡ 0 = omega (arith, c.degeneracy-found.ensures.len, c.if-found-eq0.true) in
     record {
-      cases = capped_none G lw c.args.clashes.now c.write-edges-m.new.clashes c.write-edges-m.ensures.edges c.args.living.now c.args.marks.now c.fill.new.bytes c.size-n.result 0 c.size-n.ensures (none_listed G lw v) (cap_empty G lw v) c.fill.ensures;
-      refused = c.in-default.ensures;
+      cases = capped_none G lw c.args.clashes.now c.write_edges-m.new.clashes c.write_edges-m.ensures.edges c.args.living.now c.args.marks.now c.fill.new.bytes c.size-n.result 0 c.size-n.ensures (none_listed G lw v) (cap_empty G lw v) c.fill.ensures;
+      refused = c.in_default.ensures;
     }
 
 pub returns-then-m-eq0 : goal.returns-then-m-eq0
 returns-then-m-eq0 g c =
     let G = g.S.Source.graph c.args.source.now in
     let lw = g.met.S.Source.lawful c.args.source.now in
-    let z : edge_count G ≡ 0 = omega (arith, c.write-edges-m.ensures.value, c.if-m-eq0.true) in
+    let z : edge_count G ≡ 0 = omega (arith, c.write_edges-m.ensures.value, c.if-m-eq0.true) in
     record {
-      cases = capped_none G lw c.args.clashes.now c.write-edges-m.new.clashes c.write-edges-m.ensures.edges c.args.living.now c.args.marks.now c.fill.new.bytes c.size-n.result 1 c.size-n.ensures z (cap_plain G (omega (arith, c.degeneracy-found.ensures.len, c.if-found-eq0.false)) z) c.fill.ensures;
-      refused = c.in-default.ensures;
+      cases = capped_none G lw c.args.clashes.now c.write_edges-m.new.clashes c.write_edges-m.ensures.edges c.args.living.now c.args.marks.now c.fill.new.bytes c.size-n.result 1 c.size-n.ensures z (cap_plain G (omega (arith, c.degeneracy-found.ensures.len, c.if-found-eq0.false)) z) c.fill.ensures;
+      refused = c.in_default.ensures;
     }
 
-pub returns-in-default-deepest : goal.returns-in-default-deepest
-returns-in-default-deepest g c =
+pub returns-in_default-deepest : goal.returns-in_default-deepest
+returns-in_default-deepest g c =
     let G = g.S.Source.graph c.args.source.now in
     let lw = g.met.S.Source.lawful c.args.source.now in
-    let m = c.write-edges-m.result in
-    let f = c.in-default.ensures in
-    let e = written G c.args.clashes.now c.write-edges-m.new.clashes m c.write-edges-m.ensures.value c.write-edges-m.ensures.edges in
-    let len : length (take (m - 0) c.write-edges-m.new.clashes) ≡ edge_count G = ap length e in
-    absurd (never_refused (length (take (m - 0) c.write-edges-m.new.clashes)) c.size-n.result _ (length c.fill-2.new.bytes) (length c.fill.new.bytes) _ (listing G lw c.args.clashes.now c.write-edges-m.new.clashes c.write-edges-m.ensures.edges (take (m - 0) c.write-edges-m.new.clashes) c.size-n.result e c.size-n.ensures) (omega (arith, f.few)) (omega (arith, f.living_fit, c.fill-2.auto.bytes)) (omega (arith, f.marks_fit, c.size-n.ensures, c.fill.auto.bytes)) c.in-default-deepest.ensures.refused)
+    let m = c.write_edges-m.result in
+    let f = c.in_default.ensures in
+    let e = written G c.args.clashes.now c.write_edges-m.new.clashes m c.write_edges-m.ensures.value c.write_edges-m.ensures.edges in
+    let len : length (take (m - 0) c.write_edges-m.new.clashes) ≡ edge_count G = ap length e in
+    absurd (never_refused (length (take (m - 0) c.write_edges-m.new.clashes)) c.size-n.result _ (length c.fill-2.new.bytes) (length c.fill.new.bytes) _ (listing G lw c.args.clashes.now c.write_edges-m.new.clashes c.write_edges-m.ensures.edges (take (m - 0) c.write_edges-m.new.clashes) c.size-n.result e c.size-n.ensures) (omega (arith, f.few)) (omega (arith, f.living_fit, c.fill-2.auto.bytes)) (omega (arith, f.marks_fit, c.size-n.ensures, c.fill.auto.bytes)) c.in_default-deepest.ensures.refused)
 
-pub overflow-add-found : goal.overflow-add-found
-overflow-add-found g c =
+pub overflow_add-found : goal.overflow_add-found
+overflow_add-found g c =
     let G = g.S.Source.graph c.args.source.now in
     let s = (g.met.S.Source.lawful c.args.source.now).small in
     let h = degeneracy_le G c.degeneracy-found.result.degeneracy c.degeneracy-found.ensures.degeneracy in
     record { fits = omega arith }
 
-pub overflow-add-number : goal.overflow-add-number
-overflow-add-number g c =
+pub overflow_add-number : goal.overflow_add-number
+overflow_add-number g c =
     let G = g.S.Source.graph c.args.source.now in
     let s = (g.met.S.Source.lawful c.args.source.now).small in
-    let m = c.write-edges-m.result in
-    let e = written G c.args.clashes.now c.write-edges-m.new.clashes m c.write-edges-m.ensures.value c.write-edges-m.ensures.edges in
-    let h = number_le G (take (m - 0) c.write-edges-m.new.clashes) c.size-n.result c.args.living.now c.fill-2.new.bytes c.deepest.new.living m c.in-Ok.number (c.write-edges-m.ensures.value ∙ sym (ap length e)) (omega (arith, c.if-m-eq0.false)) c.fill-2.ensures c.in-Ok.ensures.cases.0 in
+    let m = c.write_edges-m.result in
+    let e = written G c.args.clashes.now c.write_edges-m.new.clashes m c.write_edges-m.ensures.value c.write_edges-m.ensures.edges in
+    let h = number_le G (take (m - 0) c.write_edges-m.new.clashes) c.size-n.result c.args.living.now c.fill-2.new.bytes c.deepest.new.living m c.in-Ok.number (c.write_edges-m.ensures.value ∙ sym (ap length e)) (omega (arith, c.if-m-eq0.false)) c.fill-2.ensures c.in-Ok.ensures.cases.0 in
     record { fits = omega (arith, c.size-n.ensures) }
 
 pub returns : goal.returns
 returns g c =
     let G = g.S.Source.graph c.args.source.now in
     let lw = g.met.S.Source.lawful c.args.source.now in
-    let m = c.write-edges-m.result in
-    let E = c.write-edges-m.ensures.edges in
-    let v = c.write-edges-m.ensures.value in
-    let e = written G c.args.clashes.now c.write-edges-m.new.clashes m v E in
+    let m = c.write_edges-m.result in
+    let E = c.write_edges-m.ensures.edges in
+    let v = c.write_edges-m.ensures.value in
+    let e = written G c.args.clashes.now c.write_edges-m.new.clashes m v E in
     let full : (k : ℕ) → get_or c.fill-2.new.bytes k 0 ≡ cond (ltb k (edge_count G)) 1 (get_or c.args.living.now k 0) = subst (λ n. (k : ℕ) → get_or c.fill-2.new.bytes k 0 ≡ cond (ltb k n) 1 (get_or c.args.living.now k 0)) v c.fill-2.ensures in
-    let D = deepest_of G (take (m - 0) c.write-edges-m.new.clashes) c.size-n.result c.fill-2.new.bytes c.deepest.new.living c.in-Ok.number e c.size-n.ensures c.in-Ok.ensures.cases.0 in
+    let D = deepest_of G (take (m - 0) c.write_edges-m.new.clashes) c.size-n.result c.fill-2.new.bytes c.deepest.new.living c.in-Ok.number e c.size-n.ensures c.in-Ok.ensures.cases.0 in
     record {
-      cases = capped_edged G lw c.args.clashes.now c.write-edges-m.new.clashes E c.args.living.now c.fill-2.new.bytes c.deepest.new.living c.in-Ok.number full D (omega (arith, c.if-m-eq0.false)) c.args.marks.now c.fill.new.bytes c.deepest.new.marks c.size-n.result c.degeneracy-found.result.degeneracy c.smaller.result c.size-n.ensures c.degeneracy-found.ensures.degeneracy c.fill.ensures c.in-Ok.ensures.cases.1 c.smaller.ensures;
-      refused = c.in-default.ensures;
+      cases = capped_edged G lw c.args.clashes.now c.write_edges-m.new.clashes E c.args.living.now c.fill-2.new.bytes c.deepest.new.living c.in-Ok.number full D (omega (arith, c.if-m-eq0.false)) c.args.marks.now c.fill.new.bytes c.deepest.new.marks c.size-n.result c.degeneracy-found.result.degeneracy c.smaller.result c.size-n.ensures c.degeneracy-found.ensures.degeneracy c.fill.ensures c.in-Ok.ensures.cases.1 c.smaller.ensures;
+      refused = c.in_default.ensures;
     }

@@ -13,19 +13,19 @@ pub loop-at-preserved : goal.loop-at-preserved
 loop-at-preserved g c =
     let G = g.S.Source.graph c.args.source.now in
     let p = c.args.order.now in
-    let e = c.in-ok-len.ensures.cases in
+    let e = c.in_ok-len.ensures.cases in
     let inv = c.loop-at.invariant in (
       e.bound inv.0,
       few_more G p c.loop-at.at (omega arith) e.few inv.1,
-      climb_more G p c.loop-at.best c.climb-step.new.block c.loop-at.at c.loop-at.len c.in-ok-len.len (omega arith) (omega arith) e inv.2,
+      climb_more G p c.loop-at.best c.climb_step.new.block c.loop-at.at c.loop-at.len c.in_ok-len.len (omega arith) (omega arith) e inv.2,
     )
 
-pub returns-in-err-len : goal.returns-in-err-len
-returns-in-err-len g c =
+pub returns-in_err-len : goal.returns-in_err-len
+returns-in_err-len g c =
     let G = g.S.Source.graph c.args.source.now in
     let order = c.args.order.now in
-    let p = err_from_is_err_and c.from-residual.result c.from-residual.ensures.1 in
-    let e = refused_dense G order (c.loop-at.at - 1) _ (omega arith) c.in-err-len.ensures.cases.0 in
+    let p = err_from_is_err_and c.from_residual.result c.from_residual.ensures.1 in
+    let e = refused_dense G order (c.loop-at.at - 1) _ (omega arith) c.in_err-len.ensures.cases.0 in
     rw (p.1, p.2) (record { cases = (e, refl); succeeds = λ m o k l. absurd (never_dense G order m _ o k l e) })
 
 pub returns : goal.returns

@@ -13,14 +13,14 @@ pub returns-in-Some-reaching : goal.returns-in-Some-reaching
 returns-in-Some-reaching g c =
     let G = g.S.Source.graph c.args.source.now in
     let p = c.args.order.now in
-    let q : List ℕ = take (c.in-Some.count - 0) c.later-neighbours.new.found in
+    let q : List ℕ = take (c.in-Some.count - 0) c.later_neighbours.new.found in
     let e : c.in-Some.count - 0 ≡ c.in-Some.count = omega arith in
-    let is : q ≡ later_list G p c.args.at = ap (λ (k : ℕ). take k c.later-neighbours.new.found) e ∙ c.in-Some.ensures.1 in
-    let short = counted c.later-neighbours.new.found (c.in-Some.count - 0) (omega (arith, c.in-Some.ensures.0)) in
+    let is : q ≡ later_list G p c.args.at = ap (λ (k : ℕ). take k c.later_neighbours.new.found) e ∙ c.in-Some.ensures.1 in
+    let short = counted c.later_neighbours.new.found (c.in-Some.count - 0) (omega (arith, c.in-Some.ensures.0)) in
     let t : ℕ → Bool = plus (get_or p c.args.at 0) (picked q c.in-Some-reaching.mask) in
     record {
-      cases = climbs_larger G p q c.args.at is (g.met.S.Source.lawful c.args.source.now) c.if-at-order.false short c.args.block.now c.write-block.new.block c.args.len c.write-block.result c.in-Some-reaching.mask c.in-Some-reaching.ensures
-          (c.write-block.ensures.len ∙ ap (count t) c.size.ensures) (c.write-block.ensures.items ∙ ap (members t) c.size.ensures);
+      cases = climbs_larger G p q c.args.at is (g.met.S.Source.lawful c.args.source.now) c.if-at-order.false short c.args.block.now c.write_block.new.block c.args.len c.write_block.result c.in-Some-reaching.mask c.in-Some-reaching.ensures
+          (c.write_block.ensures.len ∙ ap (count t) c.size.ensures) (c.write_block.ensures.items ∙ ap (members t) c.size.ensures);
       succeeds = λ m o k l h. refl;
     }
 
@@ -28,23 +28,23 @@ pub returns-in-None : goal.returns-in-None
 returns-in-None g c =
     let G = g.S.Source.graph c.args.source.now in
     let p = c.args.order.now in
-    let q : List ℕ = take (c.in-Some.count - 0) c.later-neighbours.new.found in
+    let q : List ℕ = take (c.in-Some.count - 0) c.later_neighbours.new.found in
     let e : c.in-Some.count - 0 ≡ c.in-Some.count = omega arith in
-    let is : q ≡ later_list G p c.args.at = ap (λ (k : ℕ). take k c.later-neighbours.new.found) e ∙ c.in-Some.ensures.1 in
-    let short = counted c.later-neighbours.new.found (c.in-Some.count - 0) (omega (arith, c.in-Some.ensures.0)) in
+    let is : q ≡ later_list G p c.args.at = ap (λ (k : ℕ). take k c.later_neighbours.new.found) e ∙ c.in-Some.ensures.1 in
+    let short = counted c.later_neighbours.new.found (c.in-Some.count - 0) (omega (arith, c.in-Some.ensures.0)) in
     record { cases = climbs_same G p q c.args.at is (g.met.S.Source.lawful c.args.source.now) c.if-at-order.false short c.args.block.now c.args.len c.in-None.ensures; succeeds = λ m o k l h. refl }
 
 pub returns-then-count-len : goal.returns-then-count-len
 returns-then-count-len g c =
     let G = g.S.Source.graph c.args.source.now in
     let p = c.args.order.now in
-    let found = c.later-neighbours.new.found in
+    let found = c.later_neighbours.new.found in
     let n = c.in-Some.count in
     record { cases = climbs_few G p (take n found) c.args.at c.in-Some.ensures.1 (g.met.S.Source.lawful c.args.source.now) c.if-at-order.false (counted found n c.in-Some.ensures.0) c.args.block.now c.args.len (omega (arith, length-take n found)); succeeds = λ m o k l h. refl }
 
-pub returns-in-default : goal.returns-in-default
-returns-in-default g c =
+pub returns-in_default : goal.returns-in_default
+returns-in_default g c =
     let G = g.S.Source.graph c.args.source.now in
     let p = c.args.order.now in
-    let e : StepRefused G p c.args.at TooDense = inr (refl, c.if-at-order.false, c.in-default.ensures) in
+    let e : StepRefused G p c.args.at TooDense = inr (refl, c.if-at-order.false, c.in_default.ensures) in
     record { cases = (e, refl); succeeds = λ m o k l h. absurd (step_dense G p c.args.at TooDense m h o k l e) }

@@ -18,8 +18,8 @@ loop-i-preserved-then-clashes g c =
     let t = clash (g.S.Source.graph c.args.source.now) (get_or c.args.order.now c.args.at 0) in
     (omega arith, omega arith, gather_yes t c.args.order.now c.loop-i.found c.loop-i.count c.loop-i.i (omega arith) (omega arith) c.loop-i.invariant.2 (sym c.if-clashes.ensures) (omega arith))
 
-pub returns-then-count-eq-MOST-LATER : goal.returns-then-count-eq-MOST-LATER
-returns-then-count-eq-MOST-LATER g c =
+pub returns-then-count-eq-MOST_LATER : goal.returns-then-count-eq-MOST_LATER
+returns-then-count-eq-MOST_LATER g c =
     let t = clash (g.S.Source.graph c.args.source.now) (get_or c.args.order.now c.args.at 0) in
     let h = gather_full t c.args.order.now c.loop-i.found c.loop-i.count c.loop-i.i (omega arith) (omega arith) c.loop-i.invariant.2 (c.args.at + 1) (sym c.if-clashes.ensures) (omega arith) (omega arith) in
     omega arith

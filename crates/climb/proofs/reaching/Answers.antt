@@ -9,7 +9,7 @@ returns-in-Some g c =
       mask = c.below-mask.result;
       draws = c.in-Ok.ensures;
       full = c.below-mask.ensures;
-      found = (c.in-Some.ensures.0, omega (arith, c.in-Some.ensures.1, c.saturating-sub.ensures));
+      found = (c.in-Some.ensures.0, omega (arith, c.in-Some.ensures.1, c.saturating_sub.ensures));
     }
 
 pub returns-in-None : goal.returns-in-None
@@ -19,7 +19,7 @@ returns-in-None g c =
       mask = c.below-mask.result;
       draws = c.in-Ok.ensures;
       full = c.below-mask.ensures;
-      found = (none_larger c.in-Ok.picture c.below-mask.result (λ K k. omega (arith, c.in-None.ensures K k, c.saturating-sub.ensures)), omega arith);
+      found = (none_larger c.in-Ok.picture c.below-mask.result (λ K k. omega (arith, c.in-None.ensures K k, c.saturating_sub.ensures)), omega arith);
     }
 
 pub returns-in-None-2 : goal.returns-in-None-2
@@ -29,5 +29,5 @@ returns-in-None-2 g c =
       mask = c.below-mask.result;
       draws = c.in-Ok.ensures;
       full = c.below-mask.ensures;
-      found = (omega arith, λ K k. omega (arith, c.in-None.ensures K k, c.saturating-sub.ensures));
+      found = (omega arith, λ K k. omega (arith, c.in-None.ensures K k, c.saturating_sub.ensures));
     }

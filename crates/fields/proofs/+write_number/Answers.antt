@@ -2,14 +2,14 @@ use Rattle.std.proofs.Common.{◌≡◌, ◌+◌, ◌/◌, ◌%◌, [], ◌∷�
 use Rattle.std.proofs.lemmas.Fmt.{decimal_digit, decimal_step}
 use Rattle.std.proofs.lemmas.List.{append_assoc}
 use Rattle.fields.proofs.+write_number.Goals as goal
-use Rattle.fields.proofs.+write_number.Goals.{then-v-ge10+in-ok-write-number, else-v-ge10}
+use Rattle.fields.proofs.+write_number.Goals.{then-v-ge10+in_ok-write_number, else-v-ge10}
 
 pub returns : goal.returns
 returns t c =
-    let e = c.in-ok-push.ensures.items in
+    let e = c.in_ok-push.ensures.items in
     elim c.if-v-ge10.branch [
-      | then-v-ge10+in-ok-write-number w ↦
-          let b = w.in-ok-write-number.ensures in
+      | then-v-ge10+in_ok-write_number w ↦
+          let b = w.in_ok-write_number.ensures in
           let o = w.out-is in
           let d = decimal_step c.args.v (omega (arith, w.if-v-ge10.true)) (omega arith) in
           let p = ap (λ v. vec_items v ++ ((48 + c.args.v % 10) ∷ [])) o in

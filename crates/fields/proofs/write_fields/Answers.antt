@@ -6,8 +6,8 @@ loop-x-init c = line_none _
 
 pub loop-x-preserved : goal.loop-x-preserved
 loop-x-preserved c =
-    line_more _ _ _ _ c.args.numbers.now c.loop-x.x-index c.loop-x-test.true c.loop-x.invariant c.in-ok-push-2.ensures.items c.in-ok-write-number.ensures
+    line_more _ _ _ _ c.args.numbers.now c.loop-x.x-index c.loop-x-test.true c.loop-x.invariant c.in_ok-push-2.ensures.items c.in_ok-write_number.ensures
 
 pub returns : goal.returns
 returns c =
-    line_all _ _ _ _ c.args.letter c.args.numbers.now c.loop-x.x-index c.loop-x-test.false c.in-ok-push.ensures.items c.loop-x.invariant c.in-ok-push-3.ensures.items
+    line_all _ _ _ _ c.args.letter c.args.numbers.now c.loop-x.x-index c.loop-x-test.false c.in_ok-push.ensures.items c.loop-x.invariant c.in_ok-push-3.ensures.items

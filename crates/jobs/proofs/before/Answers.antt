@@ -8,8 +8,8 @@ use Rattle.jobs.proofs.before.Goals.{then-joined, else-joined}
 pub loop-b-init : goal.loop-b-init
 loop-b-init c = sym (count_zero (clash (sharing c.args.masks.now) c.args.a))
 
-pub overflow-add-total : goal.overflow-add-total
-overflow-add-total c =
+pub overflow_add-total : goal.overflow_add-total
+overflow_add-total c =
     let l = count_le (clash (sharing c.args.masks.now) c.args.a) c.loop-b.b in omega arith
 
 pub loop-b-preserved : goal.loop-b-preserved

@@ -8,7 +8,7 @@ loop-c-preserved g c =
     (λ k h. let ne : k ≢ c.loop-c.c = omega arith in rw get_or-set_other (c.loop-c.invariant k h))
     (let lt : c.loop-c.c < length c.loop-c.left = omega arith in rw get_or-set_same c.degree.ensures)
 
-pub overflow-cast-left : goal.overflow-cast-left
-overflow-cast-left g c =
+pub overflow_cast-left : goal.overflow_cast-left
+overflow_cast-left g c =
     let lw = g.met.S.Source.lawful c.args.source.now in
     omega (arith, lw.small, degree_le (g.S.Source.graph c.args.source.now) c.loop-c.c, c.degree.ensures)

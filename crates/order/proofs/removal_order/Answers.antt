@@ -3,11 +3,11 @@ use Rattle.graph.proofs.Graphs.{vertices_le}
 use Rattle.order.proofs.Copies.{ordered_copied}
 use Rattle.order.proofs.removal_order.Goals as goal
 
-pub remove-all-ordered-requires : goal.remove-all-ordered-requires
-remove-all-ordered-requires g c =
+pub remove_all-ordered-requires : goal.remove_all-ordered-requires
+remove_all-ordered-requires g c =
     let lw = g.met.S.Source.lawful c.args.source.now in
     omega (arith, lw.small, vertices_le (g.S.Source.graph c.args.source.now))
 
 pub returns : goal.returns
 returns g c =
-    (ordered_copied _ _ _ _ _ _ _ c.remove-all-ordered.ensures (omega (arith, c.vertex-count.ensures)) c.copy-front.ensures.after c.copy-front.ensures.rest, omega arith)
+    (ordered_copied _ _ _ _ _ _ _ c.remove_all-ordered.ensures (omega (arith, c.vertex_count.ensures)) c.copy_front.ensures.after c.copy_front.ensures.rest, omega arith)

@@ -13,7 +13,7 @@ loop-x-init g c = (
   search rules,
   search rules,
   omega arith,
-  state_none (g.S.Source.graph c.args.source.now) c.fill-alive.new.alive c.fill-degrees.new.left c.fill-alive.ensures c.fill-degrees.ensures,
+  state_none (g.S.Source.graph c.args.source.now) c.fill_alive.new.alive c.fill_degrees.new.left c.fill_alive.ensures c.fill_degrees.ensures,
   refl,
 )
 
@@ -30,10 +30,10 @@ found g c =
 pub bounds-order-len : goal.bounds-order-len
 bounds-order-len g c = (found g (goal.at.bounds-order-len g c).In-Some).2
 
-pub take-out-requires : goal.take-out-requires
-take-out-requires g c =
+pub take_out-requires : goal.take_out-requires
+take_out-requires g c =
     let lw = g.met.S.Source.lawful c.args.source.now in
-    (omega (arith, lw.small), state_pos _ _ _ _ _ _ lw c.loop-x.invariant.3 (found g (goal.at.take-out-requires g c).In-Some).0)
+    (omega (arith, lw.small), state_pos _ _ _ _ _ _ lw c.loop-x.invariant.3 (found g (goal.at.take_out-requires g c).In-Some).0)
 
 pub loop-x-smaller : goal.loop-x-smaller
 loop-x-smaller g c = omega (arith, (found g (goal.at.loop-x-smaller g c).In-Some).2)
@@ -53,11 +53,11 @@ loop-x-preserved g c =
       | then-with-most v ↦ (omega (arith, v.most-is, v.if-with-most.true), omega (arith, v.most-is), inr (v.most-is ∙ w))
       | else-with-most v ↦ (omega (arith, v.most-is), omega (arith, v.most-is, v.if-with-most.false), inl v.most-is)
     ] in
-    let more = state_more G p c.loop-x.alive c.loop-x.left c.take-out.new.left c.loop-x.most m x lw (omega (arith, lw.small, c.loop-x.invariant.0)) s f.0 c.take-out.ensures ways.0 ways.1 ways.2 in (
+    let more = state_more G p c.loop-x.alive c.loop-x.left c.take_out.new.left c.loop-x.most m x lw (omega (arith, lw.small, c.loop-x.invariant.0)) s f.0 c.take_out.ensures ways.0 ways.1 ways.2 in (
       simp length-set c.loop-x.invariant.0,
       search rules,
       simp length-set (omega (arith, f.2)),
-      subst (λ q. State G q (set c.loop-x.alive x false) c.take-out.new.left m) (sym (take_more_set c.loop-x.order c.loop-x.len x f.2)) more,
+      subst (λ q. State G q (set c.loop-x.alive x false) c.take_out.new.left m) (sym (take_more_set c.loop-x.order c.loop-x.len x f.2)) more,
       drop-set-lt (vertices G) c.loop-x.order c.loop-x.len x f.1 ∙ c.loop-x.invariant.4,
     )
 
@@ -66,6 +66,6 @@ returns g c =
     let G = g.S.Source.graph c.args.source.now in
     let p = take c.loop-x.len c.loop-x.order in
     let s = c.loop-x.invariant.3 in
-    let a = state_all G p c.loop-x.alive c.loop-x.left c.loop-x.most s (λ k l. c.in-default.ensures k (omega (arith, c.size-n.ensures))) in
+    let a = state_all G p c.loop-x.alive c.loop-x.left c.loop-x.most s (λ k l. c.in_default.ensures k (omega (arith, c.size-n.ensures))) in
     let v : c.loop-x.len ≡ vertices G = sym (length-take-le c.loop-x.len c.loop-x.order c.loop-x.invariant.2) ∙ a.0 in
     record { len_is = v; fits = c.loop-x.invariant.2; order = a.1; peak = s.removed.peak; degeneracy = peak_degeneracy G p c.loop-x.most a.1 s.removed.peak; rest = rw v c.loop-x.invariant.4 }

@@ -1,7 +1,7 @@
 use Rattle.std.proofs.Common.{◌+◌, ◌<◌, get_or, sym, subst, arith}
 use Rattle.degeneracy.proofs.Ranks.{Taken, taken_more, taken_all}
 use Rattle.order.proofs.take_out.Goals as goal
-use Rattle.order.proofs.take_out.Goals.{in-Some, in-default}
+use Rattle.order.proofs.take_out.Goals.{in-Some, in_default}
 
 pub loop-i-preserved : goal.loop-i-preserved
 loop-i-preserved g c =
@@ -10,7 +10,7 @@ loop-i-preserved g c =
       | in-Some w ↦ let at = w.in-Some.ensures.ranked in
           let pos : 0 < get_or c.loop-i.left w.in-Some.b 0 = omega (arith, c.requires.1 w.in-Some.b at.0 at.1, c.loop-i.invariant.rest w.in-Some.b at.0 at.1 (omega (arith, at.2))) in
           subst (λ v. Taken G c.args.x c.args.left.now v (c.loop-i.i + 1)) (sym w.left-is) (taken_more G c.args.x c.args.left.now c.loop-i.left c.loop-i.i w.in-Some.b _ c.loop-i.invariant at (omega (arith, c.requires.0)) (omega arith))
-      | in-default w ↦ absurd (omega (arith, w.in-default.ensures.ranked, c.degree-i-end.ensures))
+      | in_default w ↦ absurd (omega (arith, w.in_default.ensures.ranked, c.degree-i-end.ensures))
     ]
 
 pub returns : goal.returns

@@ -6,6 +6,6 @@ pub returns : goal.returns
 returns g c =
     let N = g.P.Peeled.items c.args.pool.now c.args.list.now in
     record {
-      counted = λ k y. c.loop-i.invariant.0 k (omega (arith, alive_below N c.args.living.now k y, c.item-count-i-end.ensures)) (alive_byte N c.args.living.now k y);
+      counted = λ k y. c.loop-i.invariant.0 k (omega (arith, alive_below N c.args.living.now k y, c.item_count-i-end.ensures)) (alive_byte N c.args.living.now k y);
       same = c.loop-i.invariant.1;
     }

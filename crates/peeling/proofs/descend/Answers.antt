@@ -16,7 +16,7 @@ pub loop-low-smaller : goal.loop-low-smaller
 loop-low-smaller g c =
     let f = g.met.P.Peeled.falls c.args.pool.now c.args.list.now in
     let d = c.loop-low.invariant.0 in
-    let e = c.item-count-n.ensures in
+    let e = c.item_count-n.ensures in
     let l = subst (λ (v : ℕ). LowestCount v c.loop-low.living c.loop-low.counts c.in-Some.low) e c.in-Some.ensures in
     descent_less _ _ _ _ _ _ _ _ f d l (descent_up _ _ _ _ _ _ _ _ d l) _ _ _ _ _ c.drain-len.ensures.peeled c.drain-len.ensures.counted
 
@@ -24,7 +24,7 @@ pub loop-low-preserved : goal.loop-low-preserved
 loop-low-preserved g c =
     let f = g.met.P.Peeled.falls c.args.pool.now c.args.list.now in
     let d = c.loop-low.invariant.0 in
-    let e = c.item-count-n.ensures in
+    let e = c.item_count-n.ensures in
     let l = subst (λ (v : ℕ). LowestCount v c.loop-low.living c.loop-low.counts c.in-Some.low) e c.in-Some.ensures in
     let p = c.drain-len.ensures.peeled in (
       descent_more _ _ _ _ _ _ _ _ f d l (descent_up _ _ _ _ _ _ _ _ d l) _ _ _ _ _ p c.drain-len.ensures.counted,
@@ -43,8 +43,8 @@ returns g c =
     let N = g.P.Peeled.items c.args.pool.now c.args.list.now in
     let f = g.met.P.Peeled.falls c.args.pool.now c.args.list.now in
     let i = c.loop-low.invariant in
-    let none = subst (λ (v : ℕ). (k : ℕ) → alive v c.loop-low.living k ≡ false) c.item-count-n.ensures c.in-default.ensures in
-    let z : c.loop-low.next - 1 ≡ c.saturating-sub.result = sym c.saturating-sub.ensures in
+    let none = subst (λ (v : ℕ). (k : ℕ) → alive v c.loop-low.living k ≡ false) c.item_count-n.ensures c.in_default.ensures in
+    let z : c.loop-low.next - 1 ≡ c.saturating_sub.result = sym c.saturating_sub.ensures in
     record {
       deepest = subst (λ (v : ℕ). DeepestIn sup N c.args.living.now c.revive.new.living v) z (descent_in sup N c.args.living.now c.loop-low.living c.loop-low.counts (take c.loop-low.len c.loop-low.taken) c.revive.new.living c.loop-low.next f i.0 none c.revive.ensures i.2);
       same = i.3;

@@ -15,12 +15,12 @@ loop-head-init g c =
     let living = c.args.living.now in
     let counts = c.args.counts.now in
     let k = c.args.least in
-    let t = c.first-weak-tail.result in
-    let xs = c.first-weak-tail.new.taken in
-    let e = c.item-count-n.ensures in
-    let q = c.first-weak-tail.ensures in
+    let t = c.first_weak-tail.result in
+    let xs = c.first_weak-tail.new.taken in
+    let e = c.item_count-n.ensures in
+    let q = c.first_weak-tail.ensures in
     let queue : (i : ℕ) → has (take t xs) i ≡ (alive N living i && ltb (get_or counts i 0) k) = λ i.
-    (q.queue i ∙ or_no (has [] i) (lesser c.item-count-n.result living counts k c.item-count-n.result i) (has_none i) ∙ lesser_all c.item-count-n.result living counts k i ∙ ap (λ (v : ℕ). alive v living i && ltb (get_or counts i 0) k) e) in (
+    (q.queue i ∙ or_no (has [] i) (lesser c.item_count-n.result living counts k c.item_count-n.result i) (has_none i) ∙ lesser_all c.item_count-n.result living counts k i ∙ ap (λ (v : ℕ). alive v living i && ltb (get_or counts i 0) k) e) in (
       draining_none sup N k living counts xs t c.requires.counted q.fits queue (subst (λ (v : ℕ). count (has (take t xs)) v ≡ t) e q.many),
       q.fits,
       omega arith,
@@ -38,7 +38,7 @@ lower-requires g c =
     let N = g.P.Peeled.items c.args.pool.now c.args.list.now in
     let lo = c.losers-lost.ensures.losers in
     let i = c.loop-head.invariant in
-    let e = c.item-count-n.ensures in
+    let e = c.item_count-n.ensures in
     let out = c.losers-lost.new.out in
     record {
       fits = c.losers-lost.ensures.fits;
@@ -47,12 +47,12 @@ lower-requires g c =
       positive = losers_positive _ _ _ _ _ _ _ _ _ (g.met.P.Peeled.falls c.args.pool.now c.args.list.now) (omega (arith, c.requires.tables.lives)) i.0 (omega arith) i.1 (take c.losers-lost.result out) lo;
     }
 
-pub push-fallen-tail-requires : goal.push-fallen-tail-requires
-push-fallen-tail-requires g c =
+pub push_fallen-tail-requires : goal.push_fallen-tail-requires
+push_fallen-tail-requires g c =
     let N = g.P.Peeled.items c.args.pool.now c.args.list.now in
     let lo = c.losers-lost.ensures.losers in
     let i = c.loop-head.invariant in
-    let e = c.item-count-n.ensures in
+    let e = c.item_count-n.ensures in
     let out = c.losers-lost.new.out in
     record {
       fits = c.losers-lost.ensures.fits;
@@ -76,15 +76,15 @@ loop-head-preserved g c =
     let f = g.met.P.Peeled.falls c.args.pool.now c.args.list.now in
     let lo = c.losers-lost.ensures.losers in
     let i = c.loop-head.invariant in
-    let e = c.item-count-n.ensures in
+    let e = c.item_count-n.ensures in
     let out = take c.losers-lost.result c.losers-lost.new.out in
-    let q = c.push-fallen-tail.ensures in
-    let w : Lowered N c.args.least out c.loop-head.counts c.lower.new.counts c.loop-head.taken c.push-fallen-tail.new.taken c.loop-head.tail c.push-fallen-tail.result =
-    subst (λ (v : ℕ). Lowered v c.args.least out c.loop-head.counts c.lower.new.counts c.loop-head.taken c.push-fallen-tail.new.taken c.loop-head.tail c.push-fallen-tail.result) e (lowered_from _ _ _ _ _ _ _ _ _ _ c.lower.ensures q) in (
-      draining_more sup N c.args.least c.args.living.now c.loop-head.living c.loop-head.counts c.loop-head.taken c.loop-head.head c.loop-head.tail f (omega (arith, c.requires.tables.lives)) i.0 (omega arith) i.1 out c.lower.new.counts c.push-fallen-tail.new.taken c.push-fallen-tail.result lo w,
+    let q = c.push_fallen-tail.ensures in
+    let w : Lowered N c.args.least out c.loop-head.counts c.lower.new.counts c.loop-head.taken c.push_fallen-tail.new.taken c.loop-head.tail c.push_fallen-tail.result =
+    subst (λ (v : ℕ). Lowered v c.args.least out c.loop-head.counts c.lower.new.counts c.loop-head.taken c.push_fallen-tail.new.taken c.loop-head.tail c.push_fallen-tail.result) e (lowered_from _ _ _ _ _ _ _ _ _ _ c.lower.ensures q) in (
+      draining_more sup N c.args.least c.args.living.now c.loop-head.living c.loop-head.counts c.loop-head.taken c.loop-head.head c.loop-head.tail f (omega (arith, c.requires.tables.lives)) i.0 (omega arith) i.1 out c.lower.new.counts c.push_fallen-tail.new.taken c.push_fallen-tail.result lo w,
       q.fits,
       omega (arith, i.2, q.grows),
-      q.rest ∙ drop_later c.loop-head.tail c.push-fallen-tail.result c.loop-head.taken c.first-weak-tail.new.taken q.grows i.3,
+      q.rest ∙ drop_later c.loop-head.tail c.push_fallen-tail.result c.loop-head.taken c.first_weak-tail.new.taken q.grows i.3,
       λ k. c.losers-lost.ensures.same k ∙ i.4 k,
     )
 
@@ -94,7 +94,7 @@ returns g c =
     let N = g.P.Peeled.items c.args.pool.now c.args.list.now in
     let i = c.loop-head.invariant in
     record {
-      peeled = draining_all sup N c.args.least c.args.living.now c.loop-head.living c.loop-head.counts c.loop-head.taken c.args.taken.now c.loop-head.head c.loop-head.tail (g.met.P.Peeled.falls c.args.pool.now c.args.list.now) i.0 (omega arith) i.1 (i.3 ∙ drop_later c.first-weak-tail.result c.loop-head.tail c.first-weak-tail.new.taken c.args.taken.now i.2 c.first-weak-tail.ensures.rest);
+      peeled = draining_all sup N c.args.least c.args.living.now c.loop-head.living c.loop-head.counts c.loop-head.taken c.args.taken.now c.loop-head.head c.loop-head.tail (g.met.P.Peeled.falls c.args.pool.now c.args.list.now) i.0 (omega arith) i.1 (i.3 ∙ drop_later c.first_weak-tail.result c.loop-head.tail c.first_weak-tail.new.taken c.args.taken.now i.2 c.first_weak-tail.ensures.rest);
       counted = i.0.counted;
       same = i.4;
     }

@@ -15,12 +15,12 @@ loop-i-preserved g c =
     let up : c.loop-i.i ≡ i + 1 = omega arith in
     let l : i < length p = omega arith in
     let nx = c.requires.order.each i l in (
-      painted_more G p i c.loop-i.colours c.lowest-free.result (g.met.S.Source.lawful c.args.source.now) c.requires.order l (omega (arith, c.requires.fits)) (subst (λ v. Painted G p v c.loop-i.colours) up c.loop-i.invariant.0) c.lowest-free.ensures.value c.lowest-free.ensures.bound,
-      rest_more G.size c.loop-i.colours _ (get_or p i 0) c.lowest-free.result nx.within c.loop-i.invariant.1,
+      painted_more G p i c.loop-i.colours c.lowest_free.result (g.met.S.Source.lawful c.args.source.now) c.requires.order l (omega (arith, c.requires.fits)) (subst (λ v. Painted G p v c.loop-i.colours) up c.loop-i.invariant.0) c.lowest_free.ensures.value c.lowest_free.ensures.bound,
+      rest_more G.size c.loop-i.colours _ (get_or p i 0) c.lowest_free.result nx.within c.loop-i.invariant.1,
     )
 
-pub lowest-free-requires : goal.lowest-free-requires
-lowest-free-requires g c =
+pub lowest_free-requires : goal.lowest_free-requires
+lowest_free-requires g c =
     let G = g.S.Source.graph c.args.source.now in
     let p = c.args.order.now in
     let i = c.loop-i.i - 1 in

@@ -1,7 +1,7 @@
 use Rattle.std.proofs.Common.{◌+◌, sym, subst, arith}
 use Rattle.degeneracy.proofs.Marks.{Marks, marks_none, marks_more, marks_all}
 use Rattle.plan.proofs.taken_near.Goals as goal
-use Rattle.plan.proofs.taken_near.Goals.{in-Some, in-default}
+use Rattle.plan.proofs.taken_near.Goals.{in-Some, in_default}
 
 pub loop-i-init : goal.loop-i-init
 loop-i-init g c = marks_none (g.S.Source.graph c.args.source.now) c.args.x c.args.colours.now
@@ -13,7 +13,7 @@ loop-i-preserved g c =
     elim c.match-neighbour.branch [
       | in-Some w ↦ let at = w.in-Some.ensures.ranked in
           subst (Marks G c.args.x paint (c.loop-i.i + 1)) (sym w.taken-is) (marks_more G c.args.x paint c.loop-i.i w.in-Some.b c.loop-i.taken c.loop-i.invariant at (c.requires.small w.in-Some.b at.0))
-      | in-default w ↦ absurd (omega (arith, w.in-default.ensures.ranked, c.degree-i-end.ensures))
+      | in_default w ↦ absurd (omega (arith, w.in_default.ensures.ranked, c.degree-i-end.ensures))
     ]
 
 pub returns : goal.returns

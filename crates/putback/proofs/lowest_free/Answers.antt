@@ -7,9 +7,9 @@ returns g c =
     let G = g.S.Source.graph c.args.source.now in
     let lw = g.met.S.Source.lawful c.args.source.now in
     let paint = c.args.colours.now in
-    let taken = c.taken-near-taken.result in
-    let s = c.taken-near-taken.ensures in
-    let k = c.first-free.result in
-    let f = c.first-free.ensures in
-    let top : k ≤ 1025 = marked_end G c.args.x paint taken k lw s f.high-bound f.before in
-    marked_lowest G c.args.x paint taken k s f.low-bound top f.before (f.found (omega arith))
+    let taken = c.taken_near-taken.result in
+    let s = c.taken_near-taken.ensures in
+    let k = c.first_free.result in
+    let f = c.first_free.ensures in
+    let top : k ≤ 1025 = marked_end G c.args.x paint taken k lw s f.high_bound f.before in
+    marked_lowest G c.args.x paint taken k s f.low_bound top f.before (f.found (omega arith))

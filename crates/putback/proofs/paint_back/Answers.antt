@@ -20,8 +20,8 @@ loop-i-preserved g c =
     let i = c.loop-i.i - 1 in
     let up : c.loop-i.i ≡ i + 1 = omega arith in
     let l : i < length p = omega arith in (
-      (λ tk. back_more G p i c.clear.new.colours c.loop-i.colours c.lowest-free.result (g.met.S.Source.lawful c.args.source.now) tk l (omega (arith, c.requires.listed i l, c.requires.room)) (subst (λ v. Back G p v c.clear.new.colours c.loop-i.colours) up (c.loop-i.invariant.0 tk)) c.lowest-free.ensures),
-      (λ v n. get_or-set_other c.loop-i.colours (get_or p i 0) v c.lowest-free.result 0 (λ q. both_ways (has p v) n (ap (has p) q ∙ has_at p i l)) ∙ c.loop-i.invariant.1 v n),
+      (λ tk. back_more G p i c.clear.new.colours c.loop-i.colours c.lowest_free.result (g.met.S.Source.lawful c.args.source.now) tk l (omega (arith, c.requires.listed i l, c.requires.room)) (subst (λ v. Back G p v c.clear.new.colours c.loop-i.colours) up (c.loop-i.invariant.0 tk)) c.lowest_free.ensures),
+      (λ v n. get_or-set_other c.loop-i.colours (get_or p i 0) v c.lowest_free.result 0 (λ q. both_ways (has p v) n (ap (has p) q ∙ has_at p i l)) ∙ c.loop-i.invariant.1 v n),
     )
 
 pub returns : goal.returns

@@ -1,7 +1,7 @@
 use Rattle.std.proofs.Common.{◌+◌, sym, subst, arith}
 use Rattle.peels.proofs.Marks.{Marks, marks_none, marks_yes, marks_no, marks_all}
 use Rattle.putback.proofs.taken_near.Goals as goal
-use Rattle.putback.proofs.taken_near.Goals.{in-Some+then-colour-lt1026, in-Some+else-colour-lt1026, in-default}
+use Rattle.putback.proofs.taken_near.Goals.{in-Some+then-colour-lt1026, in-Some+else-colour-lt1026, in_default}
 
 pub loop-i-init : goal.loop-i-init
 loop-i-init g c = marks_none (g.S.Source.graph c.args.source.now) c.args.x c.args.colours.now
@@ -16,7 +16,7 @@ loop-i-preserved g c =
     elim c.match-neighbour.branch [
       | in-Some+then-colour-lt1026 w ↦ subst P (sym w.taken-is) (marks_yes G x paint i w.in-Some.b c.loop-i.taken c.loop-i.invariant w.in-Some.ensures.ranked w.if-colour-lt1026.true)
       | in-Some+else-colour-lt1026 w ↦ subst P (sym w.taken-is) (marks_no G x paint i w.in-Some.b c.loop-i.taken c.loop-i.invariant w.in-Some.ensures.ranked w.if-colour-lt1026.false)
-      | in-default w ↦ absurd (omega (arith, w.in-default.ensures.ranked, c.degree-i-end.ensures))
+      | in_default w ↦ absurd (omega (arith, w.in_default.ensures.ranked, c.degree-i-end.ensures))
     ]
 
 pub returns : goal.returns

@@ -3,4 +3,4 @@ use Rattle.reading.proofs.Opens.{stated}
 use Rattle.reading.proofs.check.Goals as goal
 
 pub returns : goal.returns
-returns c = stated c.args.sheet.now c.in-ok-opened.opened _ _ c.in-ok-clashes.clashes c.in-ok-opened.ensures c.in-ok-clashes.ensures
+returns c = stated c.args.sheet.now c.in_ok-opened.opened _ _ c.in_ok-clashes.clashes c.in_ok-opened.ensures c.in_ok-clashes.ensures

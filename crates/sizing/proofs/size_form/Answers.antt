@@ -10,50 +10,50 @@ use Rattle.climbing.specs.Climbs.{BlockIn}
 use Rattle.climbing.proofs.Later.{order_once}
 use Rattle.sizing.proofs.Sizes.{plan_dense, form_sized, front_is}
 use Rattle.sizing.proofs.size_form.Goals as goal
-use Rattle.sizing.proofs.size_form.Goals.{In-ok-count}
+use Rattle.sizing.proofs.size_form.Goals.{In_ok-count}
 
-pub returns-in-err-planned : goal.returns-in-err-planned
-returns-in-err-planned c =
+pub returns-in_err-planned : goal.returns-in_err-planned
+returns-in_err-planned c =
     let f = c.args.form.now in
-    let p = err_from_is_err_and c.from-residual.result c.from-residual.ensures.1 in
+    let p = err_from_is_err_and c.from_residual.result c.from_residual.ensures.1 in
     let small = (sound_of f.sound).small in
-    rw (p.1, p.2) (inl (plan_dense (vec_items f.offsets) (vec_items f.neighbours) _ _ _ small refl refl c.in-err-planned.ensures.0))
+    rw (p.1, p.2) (inl (plan_dense (vec_items f.offsets) (vec_items f.neighbours) _ _ _ small refl refl c.in_err-planned.ensures.0))
 
-pub returns-in-err-count : goal.returns-in-err-count
-returns-in-err-count c =
-    let p = c.in-ok-planned.ensures in
+pub returns-in_err-count : goal.returns-in_err-count
+returns-in_err-count c =
+    let p = c.in_ok-planned.ensures in
     let q = p.0.ordered in
     let f = c.args.form.now in
     let g = listed (vec_items f.offsets) (vec_items f.neighbours) in
-    let e = front_is c.plan.new.order c.in-ok-planned.planned.len in
-    let yes-it = c.climb_all.ensures.succeeds c.in-ok-planned.planned.degeneracy (subst (IsOrder g) (sym e) q.order) (subst (λ xs. IsPeak g xs c.in-ok-planned.planned.degeneracy) (sym e) q.peak) p.1 in
-    absurd (false≢true (sym (ap (λ r. is_ok r) c.in-err-count.was) ∙ yes-it))
+    let e = front_is c.plan.new.order c.in_ok-planned.planned.len in
+    let yes-it = c.climb_all.ensures.succeeds c.in_ok-planned.planned.degeneracy (subst (IsOrder g) (sym e) q.order) (subst (λ xs. IsPeak g xs c.in_ok-planned.planned.degeneracy) (sym e) q.peak) p.1 in
+    absurd (false≢true (sym (ap (λ r. is_ok r) c.in_err-count.was) ∙ yes-it))
 
 -- the block that was found
-found : (c : In-ok-count) → BlockIn (listed (vec_items c.args.form.now.offsets) (vec_items c.args.form.now.neighbours)) (held (listed (vec_items c.args.form.now.offsets) (vec_items c.args.form.now.neighbours))) c.climb_all.new.block c.in-ok-count.count
+found : (c : In_ok-count) → BlockIn (listed (vec_items c.args.form.now.offsets) (vec_items c.args.form.now.neighbours)) (held (listed (vec_items c.args.form.now.offsets) (vec_items c.args.form.now.neighbours))) c.climb_all.new.block c.in_ok-count.count
 found c =
     let f = c.args.form.now in
     let g = listed (vec_items f.offsets) (vec_items f.neighbours) in
-    let e = front_is c.plan.new.order c.in-ok-planned.planned.len in
-    c.in-ok-count.ensures.cases.2 (order_once g _ (subst (IsOrder g) (sym e) c.in-ok-planned.ensures.0.ordered.order))
+    let e = front_is c.plan.new.order c.in_ok-planned.planned.len in
+    c.in_ok-count.ensures.cases.2 (order_once g _ (subst (IsOrder g) (sym e) c.in_ok-planned.ensures.0.ordered.order))
 
-few : (c : In-ok-count) → c.in-ok-count.count ≤ 64
-few c = c.in-ok-count.ensures.cases.0
+few : (c : In_ok-count) → c.in_ok-count.count ≤ 64
+few c = c.in_ok-count.ensures.cases.0
 
-pub slice-bounds-write-sizing-end : goal.slice-bounds-write-sizing-end
-slice-bounds-write-sizing-end c = let h = few (goal.at.slice-bounds-write-sizing-end c).In-ok-count in omega arith
+pub slice_bounds-write_sizing-end : goal.slice_bounds-write_sizing-end
+slice_bounds-write_sizing-end c = let h = few (goal.at.slice_bounds-write_sizing-end c).In_ok-count in omega arith
 
-pub slice-bounds-write-sizing-end-2 : goal.slice-bounds-write-sizing-end-2
-slice-bounds-write-sizing-end-2 c =
+pub slice_bounds-write_sizing-end-2 : goal.slice_bounds-write_sizing-end-2
+slice_bounds-write_sizing-end-2 c =
     let f = c.args.form.now in
     let small = (sound_of f.sound).small in
     let z = c.size-n.ensures in omega arith
 
-pub write-sizing-requires : goal.write-sizing-requires
-write-sizing-requires c =
-    let h = few (goal.at.write-sizing-requires c).In-ok-count in
-    let e = front_is c.climb_all.new.block c.in-ok-count.count in
-    let l = length-take-le c.in-ok-count.count c.climb_all.new.block (omega arith) in
+pub write_sizing-requires : goal.write_sizing-requires
+write_sizing-requires c =
+    let h = few (goal.at.write_sizing-requires c).In_ok-count in
+    let e = front_is c.climb_all.new.block c.in_ok-count.count in
+    let l = length-take-le c.in_ok-count.count c.climb_all.new.block (omega arith) in
     let k = ap length e in omega arith
 
 pub returns-in-Ok : goal.returns-in-Ok
@@ -62,6 +62,6 @@ returns-in-Ok c =
     let n = c.size-n.result in
     let small = (sound_of f.sound).small in
     let z = c.size-n.ensures in
-    let p = c.in-ok-planned.ensures in
+    let p = c.in_ok-planned.ensures in
     let e : n - 0 ≡ n = omega arith in
-    form_sized (vec_items f.offsets) (vec_items f.neighbours) _ _ _ c.plan.new.colours c.climb_all.new.block _ _ _ _ _ _ n c.in-ok-count.count z p.0 p.1 (found (goal.at.returns-in-Ok c).In-ok-count) (front_is c.climb_all.new.block c.in-ok-count.count) (ap (λ (i : ℕ). take i c.plan.new.colours) e) (length-take-le (n - 0) c.plan.new.colours (omega arith) ∙ e) c.in-Ok.ensures
+    form_sized (vec_items f.offsets) (vec_items f.neighbours) _ _ _ c.plan.new.colours c.climb_all.new.block _ _ _ _ _ _ n c.in_ok-count.count z p.0 p.1 (found (goal.at.returns-in-Ok c).In_ok-count) (front_is c.climb_all.new.block c.in_ok-count.count) (ap (λ (i : ℕ). take i c.plan.new.colours) e) (length-take-le (n - 0) c.plan.new.colours (omega arith) ∙ e) c.in-Ok.ensures

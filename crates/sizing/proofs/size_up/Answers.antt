@@ -4,10 +4,10 @@ use Rattle.sizing.proofs.size_up.Goals as goal
 
 pub returns-in-Ok : goal.returns-in-Ok
 returns-in-Ok c =
-    prints_sized c.args.input.now _ _ _ (omega arith) c.in-ok-form.ensures c.in-Ok.ensures
+    prints_sized c.args.input.now _ _ _ (omega arith) c.in_ok-form.ensures c.in-Ok.ensures
 
 pub returns : goal.returns
 returns c =
-    let f = c.in-ok-form.form in
+    let f = c.in_ok-form.form in
     let u = c.unplaced-in-Err.ensures in
-    prints_refused c.args.input.now (vec_items f.offsets) (vec_items f.neighbours) c.unplaced-in-Err.result c.in-Err.refusal (omega arith) c.in-ok-form.ensures c.in-Err.ensures (record { refusal = u.refusal; line = u.line; field = u.field })
+    prints_refused c.args.input.now (vec_items f.offsets) (vec_items f.neighbours) c.unplaced-in-Err.result c.in-Err.refusal (omega arith) c.in_ok-form.ensures c.in-Err.ensures (record { refusal = u.refusal; line = u.line; field = u.field })

@@ -7,8 +7,8 @@ loop-c-init c = lines_none c.args.colours.now _
 
 pub loop-c-preserved : goal.loop-c-preserved
 loop-c-preserved c =
-    lines_more c.args.colours.now _ _ _ c.loop-c.c c.loop-c.invariant c.in-ok-write-fields-3.ensures
+    lines_more c.args.colours.now _ _ _ c.loop-c.c c.loop-c.invariant c.in_ok-write_fields-3.ensures
 
 pub returns : goal.returns
 returns c =
-    lines_all c.args.colours.now _ _ _ _ _ c.args.block.now (length c.args.colours.now) c.loop-c.c _ _ _ c.new-out.ensures.items c.in-ok-write-fields.ensures c.in-ok-write-fields-2.ensures (front_whole c.args.block.now c.widened-wide.result c.widened-wide.ensures.places) c.loop-c.invariant (omega arith)
+    lines_all c.args.colours.now _ _ _ _ _ c.args.block.now (length c.args.colours.now) c.loop-c.c _ _ _ c.new-out.ensures.items c.in_ok-write_fields.ensures c.in_ok-write_fields-2.ensures (front_whole c.args.block.now c.widened-wide.result c.widened-wide.ensures.places) c.loop-c.invariant (omega arith)

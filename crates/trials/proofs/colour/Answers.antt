@@ -22,4 +22,4 @@ returns c =
     let q = c.args.kernel.now in
     let n = c.count-n.ensures.value in
     let s = c.if-not-place.ensures in
-    record { colours = colours_same (places q) (joined q) c.args.k (at c.place.new.table) (at c.copy-front.new.to) (λ i l. c.copy-front.ensures.places i (omega arith)) s.colours; rest = λ i l. c.copy-front.ensures.rest i (omega arith) }
+    record { colours = colours_same (places q) (joined q) c.args.k (at c.place.new.table) (at c.copy_front.new.to) (λ i l. c.copy_front.ensures.places i (omega arith)) s.colours; rest = λ i l. c.copy_front.ensures.rest i (omega arith) }

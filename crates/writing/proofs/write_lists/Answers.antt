@@ -13,7 +13,7 @@ loop-a-init c = below_none (listed c.args.offsets.now c.args.neighbours.now) _
 
 pub loop-a-preserved : goal.loop-a-preserved
 loop-a-preserved c =
-    below_more (listed c.args.offsets.now c.args.neighbours.now) _ _ _ c.loop-a.a c.loop-a.invariant c.in-ok-write-row.ensures
+    below_more (listed c.args.offsets.now c.args.neighbours.now) _ _ _ c.loop-a.a c.loop-a.invariant c.in_ok-write_row.ensures
 
 pub returns : goal.returns
 returns c =
@@ -23,4 +23,4 @@ returns c =
     let k = edges_count os ns c.requires in
     let m : length ns / 2 ≡ length (edge_list g) = omega arith in
     let z : c.loop-a.a ≡ rows os = omega arith in
-    all_written (rows os) (length ns / 2) (edge_list g) _ _ _ m (all_rows g c.loop-a.a (rows os) (length ns / 2) _ _ _ c.new-out.ensures.items c.in-ok-write-line.ensures c.loop-a.invariant z) c.in-ok-push.ensures.items c.in-ok-push-2.ensures.items
+    all_written (rows os) (length ns / 2) (edge_list g) _ _ _ m (all_rows g c.loop-a.a (rows os) (length ns / 2) _ _ _ c.new-out.ensures.items c.in_ok-write_line.ensures c.loop-a.invariant z) c.in_ok-push.ensures.items c.in_ok-push-2.ensures.items

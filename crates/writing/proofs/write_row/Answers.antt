@@ -3,11 +3,11 @@ use Rattle.rows.proofs.Lawful.{row_stands}
 use Rattle.writing.proofs.Uppers.{row_written}
 use Rattle.writing.proofs.write_row.Goals as goal
 
-pub slice-bounds-write-upper-end : goal.slice-bounds-write-upper-end
-slice-bounds-write-upper-end c =
+pub slice_bounds-write_upper-end : goal.slice_bounds-write_upper-end
+slice_bounds-write_upper-end c =
     let h = row_stands c.args.offsets.now (length c.args.neighbours.now) c.requires.sound.offsets c.args.a c.requires.within in
     omega arith
 
 pub returns : goal.returns
 returns c =
-    row_written c.args.offsets.now c.args.neighbours.now c.requires.sound c.args.a c.requires.within _ _ _ refl c.in-ok-write-upper.ensures
+    row_written c.args.offsets.now c.args.neighbours.now c.requires.sound c.args.a c.requires.within _ _ _ refl c.in_ok-write_upper.ensures

@@ -3,7 +3,7 @@ use Rattle.std.proofs.lemmas.List.{append-nil}
 use Rattle.writing.specs.Upper.{upper}
 use Rattle.writing.proofs.Uppers.{upper_more, upper_skip, upper_all}
 use Rattle.writing.proofs.write_upper.Goals as goal
-use Rattle.writing.proofs.write_upper.Goals.{then-b-a+in-ok-write-line, else-b-a}
+use Rattle.writing.proofs.write_upper.Goals.{then-b-a+in_ok-write_line, else-b-a}
 
 pub loop-b-init : goal.loop-b-init
 unfolding upper
@@ -12,7 +12,7 @@ loop-b-init c = sym (append-nil (vec_items c.args.out.now))
 pub loop-b-preserved : goal.loop-b-preserved
 loop-b-preserved c =
     elim c.if-b-a.branch [
-      | then-b-a+in-ok-write-line w ↦ upper_more c.args.a (vec_items c.args.out.now) _ _ c.args.neighbours.now c.loop-b.b-index c.loop-b-test.true w.if-b-a.true c.loop-b.invariant (ap (λ v. vec_items v) w.out-is ∙ w.in-ok-write-line.ensures)
+      | then-b-a+in_ok-write_line w ↦ upper_more c.args.a (vec_items c.args.out.now) _ _ c.args.neighbours.now c.loop-b.b-index c.loop-b-test.true w.if-b-a.true c.loop-b.invariant (ap (λ v. vec_items v) w.out-is ∙ w.in_ok-write_line.ensures)
       | else-b-a w ↦ upper_skip c.args.a (vec_items c.args.out.now) _ _ c.args.neighbours.now c.loop-b.b-index c.loop-b-test.true w.if-b-a.false c.loop-b.invariant (ap (λ v. vec_items v) w.out-is)
     ]
 

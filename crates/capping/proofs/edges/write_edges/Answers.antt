@@ -11,8 +11,8 @@ loop-a-init g c =
     let G = g.S.Source.graph c.args.source.now in
     (sym (below_none G), sym (ap length (below_none G)), refl)
 
-pub write-row-len-requires : goal.write-row-len-requires
-write-row-len-requires g c =
+pub write_row-len-requires : goal.write_row-len-requires
+write_row-len-requires g c =
     let G = g.S.Source.graph c.args.source.now in
     record {
       within = omega (arith, c.size-a-end.ensures);
@@ -23,10 +23,10 @@ pub loop-a-preserved : goal.loop-a-preserved
 loop-a-preserved g c =
     let G = g.S.Source.graph c.args.source.now in
     let a = c.loop-a.a in
-    let e = c.write-row-len.ensures in (
+    let e = c.write_row-len.ensures in (
       e.front ∙ ap (λ (p : List Edge). p ++ edges_at G a) c.loop-a.invariant.0 ∙ sym (below_more G a),
       omega (arith, e.value, c.loop-a.invariant.1, below_length G a),
-      e.rest ∙ drop_later c.loop-a.len c.write-row-len.result c.loop-a.clashes c.args.clashes.now (omega (arith, e.value)) c.loop-a.invariant.2,
+      e.rest ∙ drop_later c.loop-a.len c.write_row-len.result c.loop-a.clashes c.args.clashes.now (omega (arith, e.value)) c.loop-a.invariant.2,
     )
 
 pub returns : goal.returns

@@ -5,7 +5,7 @@ use Rattle.graph.specs.Edges.{edge, edges_at}
 use Rattle.supports.proofs.Queues.{drop_later}
 use Rattle.caps.proofs.Rows.{met_edges, met_none, met_yes, met_no, met_all, met_room}
 use Rattle.capping.proofs.edges.write_row.Goals as goal
-use Rattle.capping.proofs.edges.write_row.Goals.{in-Some+then-a-b, in-Some+else-a-b, in-default}
+use Rattle.capping.proofs.edges.write_row.Goals.{in-Some+then-a-b, in-Some+else-a-b, in_default}
 
 pub loop-i-init : goal.loop-i-init
 loop-i-init g c =
@@ -45,7 +45,7 @@ loop-i-preserved g c =
       | in-Some+else-a-b w ↦ let r = w.in-Some.ensures.ranked in
           let m = met_no G a i w.in-Some.b r w.if-a-b.false in
           subst₂ R (sym w.clashes-is) (sym w.len-is) (v.0 ∙ ap (λ (p : List Edge). front ++ p) (sym m), omega (arith, v.1, ap length m), v.2)
-      | in-default w ↦ absurd (omega (arith, w.in-default.ensures.ranked, c.degree-i-end.ensures))
+      | in_default w ↦ absurd (omega (arith, w.in_default.ensures.ranked, c.degree-i-end.ensures))
     ]
 
 pub returns : goal.returns
@@ -58,14 +58,14 @@ returns g c =
       rest = c.loop-i.invariant.2;
     }
 
-pub offset-bounds-clashes-len : goal.offset-bounds-clashes-len
-offset-bounds-clashes-len g c =
+pub offset_bounds-clashes-len : goal.offset_bounds-clashes-len
+offset_bounds-clashes-len g c =
     let G = g.S.Source.graph c.args.source.now in
     let l : c.loop-i.len < length c.loop-i.clashes = omega (arith, met_room G c.args.a c.loop-i.i c.in-Some.b c.in-Some.ensures.ranked c.if-a-b.true, c.loop-i.invariant.1, c.requires.room) in
     search rules
 
-pub overflow-add-len : goal.overflow-add-len
-overflow-add-len g c =
+pub overflow_add-len : goal.overflow_add-len
+overflow_add-len g c =
     let G = g.S.Source.graph c.args.source.now in
     let l : c.loop-i.len < length c.loop-i.clashes = omega (arith, met_room G c.args.a c.loop-i.i c.in-Some.b c.in-Some.ensures.ranked c.if-a-b.true, c.loop-i.invariant.1, c.requires.room) in
     search rules

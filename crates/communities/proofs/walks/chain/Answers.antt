@@ -7,7 +7,7 @@ use Rattle.communities.proofs.walks.chain.Goals as goal
 
 pub loop-j-init : goal.loop-j-init
 loop-j-init c =
-    chaining_none c.args.n c.args.list.now c.clear-heads.new.table (omega (arith, c.requires.long)) (λ u h. c.clear-heads.ensures u ∙ cond-true (ltb u c.args.n) 0 (get_or c.args.table.now u 0) (lt-ltb u c.args.n h))
+    chaining_none c.args.n c.args.list.now c.clear_heads.new.table (omega (arith, c.requires.long)) (λ u h. c.clear_heads.ensures u ∙ cond-true (ltb u c.args.n) 0 (get_or c.args.table.now u 0) (lt-ltb u c.args.n h))
 
 pub bounds-table-a : goal.bounds-table-a
 bounds-table-a c =

@@ -20,8 +20,8 @@ loop-at-init c =
       queue_none (length list) _ c.args.out.now c.args.start (omega (arith, c.requires.many, count_le (has (take c.args.start c.args.out.now)) (length list), c.requires.lost)) c.requires.many (picked_none list S c.args.marks.now c.args.value c.args.u _ (λ k y. alive_below (length list) c.args.living.now k y) e),
     )
 
-pub offset-bounds-list-e : goal.offset-bounds-list-e
-offset-bounds-list-e c =
+pub offset_bounds-list-e : goal.offset_bounds-list-e
+offset_bounds-list-e c =
     let w = stand_within c.args.n c.args.list.now c.args.table.now c.args.u c.loop-at.at c.requires.chained c.loop-at.invariant.0 (omega arith) in
     let f = c.requires.chained.few in
     search rules
@@ -36,10 +36,10 @@ lives-requires c =
 
 pub bounds-marks-w : goal.bounds-marks-w
 bounds-marks-w c =
-    omega (arith, stand_far c.args.n c.args.list.now c.args.table.now c.args.u c.loop-at.at c.requires.chained c.loop-at.invariant.0 (omega arith) _ c.far-end-w.ensures, c.requires.room)
+    omega (arith, stand_far c.args.n c.args.list.now c.args.table.now c.args.u c.loop-at.at c.requires.chained c.loop-at.invariant.0 (omega arith) _ c.far_end-w.ensures, c.requires.room)
 
-pub overflow-cast-out : goal.overflow-cast-out
-overflow-cast-out c =
+pub overflow_cast-out : goal.overflow_cast-out
+overflow_cast-out c =
     let w = stand_within c.args.n c.args.list.now c.args.table.now c.args.u c.loop-at.at c.requires.chained c.loop-at.invariant.0 (omega arith) in
     let h : c.loop-at.at - 1 < 65536 = omega (arith, c.requires.chained.few) in
     search rules
@@ -52,7 +52,7 @@ bounds-out-len c =
     let pos : 0 < at = omega arith in
     let wk = c.loop-at.invariant.0 in
     let le = stand_within c.args.n list c.args.table.now c.args.u at c.requires.chained wk pos in
-    let nw = picked_new (length list) list S c.args.marks.now c.args.value c.args.u at c.far-end-w.result c.args.out.now c.loop-at.out c.args.start c.loop-at.len wk pos c.far-end-w.ensures (alive_yes (length list) c.args.living.now (at - 1) le (eqb-true _ 1 (sym c.lives.ensures ∙ c.if-lives.true))) c.if-marks-w.true c.loop-at.invariant.1 c.requires.fresh in
+    let nw = picked_new (length list) list S c.args.marks.now c.args.value c.args.u at c.far_end-w.result c.args.out.now c.loop-at.out c.args.start c.loop-at.len wk pos c.far_end-w.ensures (alive_yes (length list) c.args.living.now (at - 1) le (eqb-true _ 1 (sym c.lives.ensures ∙ c.if-lives.true))) c.if-marks-w.true c.loop-at.invariant.1 c.requires.fresh in
     let r = queue_room (length list) _ c.args.out.now c.loop-at.out c.args.start c.loop-at.len (at - 1) c.loop-at.invariant.1 (omega (arith, c.requires.lost)) le nw in
     omega (arith, c.requires.lost)
 
@@ -83,17 +83,17 @@ loop-at-preserved c =
     let ch = c.requires.chained in
     let r = c.before-at.result in
     let nx = stand_next n list c.args.table.now u at ch wk pos r c.before-at.ensures in
-    let x = c.far-end-w.result in
+    let x = c.far_end-w.result in
     let le = stand_within n list c.args.table.now u at ch wk pos in
     let old = c.args.out.now in
     let R : List ℕ → ℕ → Type 0 = λ m t. Queue (length list) (picked list S marks v u r) old m c.args.start t in
-    let skip : (S (at - 1) ≡ true → get_or marks x 0 ≡ v → ⊥) → R c.loop-at.out c.loop-at.len = λ d. queue_skip (length list) (picked list S marks v u at) (picked list S marks v u r) old c.loop-at.out c.args.start c.loop-at.len q (picked_no list S marks v u at r x pos nx c.far-end-w.ensures d) in (
+    let skip : (S (at - 1) ≡ true → get_or marks x 0 ≡ v → ⊥) → R c.loop-at.out c.loop-at.len = λ d. queue_skip (length list) (picked list S marks v u at) (picked list S marks v u r) old c.loop-at.out c.args.start c.loop-at.len q (picked_no list S marks v u at r x pos nx c.far_end-w.ensures d) in (
       walk_next list u at r wk pos nx,
       elim c.if-lives.branch [
         | then-lives+then-marks-w w ↦
             let y = alive_yes (length list) c.args.living.now (at - 1) le (eqb-true _ 1 (sym c.lives.ensures ∙ w.if-lives.true)) in
-            let nw = picked_new (length list) list S marks v u at x old c.loop-at.out c.args.start c.loop-at.len wk pos c.far-end-w.ensures y w.if-marks-w.true q c.requires.fresh in
-            subst₂ R (sym w.out-is) (sym w.len-is) (queue_push (length list) (picked list S marks v u at) old c.loop-at.out c.args.start c.loop-at.len (at - 1) q (omega (arith, c.requires.lost)) le nw (picked list S marks v u r) (picked_yes list S marks v u at r x wk pos nx c.far-end-w.ensures y w.if-marks-w.true))
+            let nw = picked_new (length list) list S marks v u at x old c.loop-at.out c.args.start c.loop-at.len wk pos c.far_end-w.ensures y w.if-marks-w.true q c.requires.fresh in
+            subst₂ R (sym w.out-is) (sym w.len-is) (queue_push (length list) (picked list S marks v u at) old c.loop-at.out c.args.start c.loop-at.len (at - 1) q (omega (arith, c.requires.lost)) le nw (picked list S marks v u r) (picked_yes list S marks v u at r x wk pos nx c.far_end-w.ensures y w.if-marks-w.true))
         | else-lives w ↦ subst₂ R (sym w.out-is) (sym w.len-is) (elim w.else-lives.branch [
           | else-lives-via-then-lives+else-marks-w z ↦ skip (λ a b. z.if-marks-w.false b)
           | else-lives-via-else-lives z ↦ skip (λ a b. eqb-false _ 1 (sym c.lives.ensures ∙ z.if-lives.false) (alive_byte (length list) c.args.living.now (at - 1) a))

@@ -4,7 +4,7 @@ use Rattle.cohesion.proofs.Places.{prev, RightAt, prev_none, prev_more, rising_a
 use Rattle.graph.specs.Edges.{above}
 use Rattle.cohesion.specs.Common.{edge_at}
 use Rattle.communities.proofs.walks.is_listing.Goals as goal
-use Rattle.communities.proofs.walks.is_listing.Goals.{then-e-via-then-e, then-e-via-else-e+then-e-n, then-e-via-else-e+else-e-n+then-not-is-above}
+use Rattle.communities.proofs.walks.is_listing.Goals.{then-e-via-then-e, then-e-via-else-e+then-e-n, then-e-via-else-e+else-e-n+then-not-is_above}
 
 pub loop-e-init : goal.loop-e-init
 loop-e-init c = (sym (prev_none None c.args.list.now), λ i l. absurd (omega arith))
@@ -18,7 +18,7 @@ returns-then-e c =
           elim c.then-e.branch [
             | then-e-via-then-e w ↦ omega (arith, h.smaller, w.if-e.true)
             | then-e-via-else-e+then-e-n w ↦ omega (arith, h.below, w.if-e-n.true)
-            | then-e-via-else-e+else-e-n+then-not-is-above w ↦ both_ways w.is-above.result w.if-not-is-above.true (w.is-above.ensures ∙ ap (λ o. above o (edge_at c.args.list.now c.loop-e.e-index)) c.loop-e.invariant.0 ∙ h.next)
+            | then-e-via-else-e+else-e-n+then-not-is_above w ↦ both_ways w.is_above.result w.if-not-is_above.true (w.is_above.ensures ∙ ap (λ o. above o (edge_at c.args.list.now c.loop-e.e-index)) c.loop-e.invariant.0 ∙ h.next)
           ];
     }
 
@@ -29,7 +29,7 @@ loop-e-preserved c =
     let here : RightAt c.args.n None list j = record {
       smaller = c.if-e.false;
       below = c.if-e-n.false;
-      next = ap (λ o. above o (edge_at list j)) (sym c.loop-e.invariant.0) ∙ sym c.is-above.ensures ∙ c.if-not-is-above.false;
+      next = ap (λ o. above o (edge_at list j)) (sym c.loop-e.invariant.0) ∙ sym c.is_above.ensures ∙ c.if-not-is_above.false;
     } in (
       sym (prev_more None list j c.loop-e-test.true),
       λ i l. elim (cases_eq i j) [ inl e ↦ subst (RightAt c.args.n None list) (sym e) here | inr e ↦ c.loop-e.invariant.1 i (omega arith) ],

@@ -17,8 +17,8 @@ loop-at-init c =
       raised_none _ c.args.n c.args.from c.args.to c.args.marks.now (met_none list (alive (length list) c.args.living.now) c.args.u _ e),
     )
 
-pub offset-bounds-list-e : goal.offset-bounds-list-e
-offset-bounds-list-e c =
+pub offset_bounds-list-e : goal.offset_bounds-list-e
+offset_bounds-list-e c =
     let w = stand_within c.args.n c.args.list.now c.args.table.now c.args.u c.loop-at.at c.requires.chained c.loop-at.invariant.0 (omega arith) in
     let f = c.requires.chained.few in
     search rules
@@ -33,14 +33,14 @@ lives-requires c =
 
 pub bounds-marks-w : goal.bounds-marks-w
 bounds-marks-w c =
-    omega (arith, stand_far c.args.n c.args.list.now c.args.table.now c.args.u c.loop-at.at c.requires.chained c.loop-at.invariant.0 (omega arith) _ c.far-end-w.ensures, c.requires.room)
+    omega (arith, stand_far c.args.n c.args.list.now c.args.table.now c.args.u c.loop-at.at c.requires.chained c.loop-at.invariant.0 (omega arith) _ c.far_end-w.ensures, c.requires.room)
 
 pub bounds-marks-w-then-marks-w : goal.bounds-marks-w-then-marks-w
 bounds-marks-w-then-marks-w c =
-    omega (arith, stand_far c.args.n c.args.list.now c.args.table.now c.args.u c.loop-at.at c.requires.chained c.loop-at.invariant.0 (omega arith) _ c.far-end-w.ensures, c.requires.room)
+    omega (arith, stand_far c.args.n c.args.list.now c.args.table.now c.args.u c.loop-at.at c.requires.chained c.loop-at.invariant.0 (omega arith) _ c.far_end-w.ensures, c.requires.room)
 
-pub overflow-add-total : goal.overflow-add-total
-overflow-add-total c =
+pub overflow_add-total : goal.overflow_add-total
+overflow_add-total c =
     let s = c.requires.chained.listing.small in
     let h = count_le (fresh (met c.args.list.now (alive (length c.args.list.now) c.args.living.now) c.args.u c.loop-at.at) c.args.from c.args.marks.now) c.args.n in
     let t = c.loop-at.invariant.1.total_is in
@@ -71,11 +71,11 @@ loop-at-preserved c =
     let ch = c.requires.chained in
     let r = c.before-at.result in
     let nx = stand_next n list c.args.table.now u at ch wk pos r c.before-at.ensures in
-    let x = c.far-end-w.result in
-    let lx = stand_far n list c.args.table.now u at ch wk pos x c.far-end-w.ensures in
+    let x = c.far_end-w.result in
+    let lx = stand_far n list c.args.table.now u at ch wk pos x c.far_end-w.ensures in
     let lt = stand_smaller n list c.args.table.now u at ch wk pos in
     let le = stand_within n list c.args.table.now u at ch wk pos in
-    let yes = met_yes list S u at r wk pos nx x lt c.far-end-w.ensures in
+    let yes = met_yes list S u at r wk pos nx x lt c.far_end-w.ensures in
     let before = c.args.marks.now in
     let R : List ℕ → ℕ → Type 0 = λ m t. Raised (met list S u r) n c.args.from c.args.to before m t in (
       walk_next list u at r wk pos nx,

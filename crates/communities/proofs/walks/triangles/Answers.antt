@@ -8,8 +8,8 @@ use Rattle.cohesion.proofs.Places.{smaller, below}
 use Rattle.cohesion.proofs.Rounds.{gathered_fresh, gathered_losers, rounds_rest}
 use Rattle.communities.proofs.walks.triangles.Goals as goal
 
-pub offset-bounds-list-x : goal.offset-bounds-list-x
-offset-bounds-list-x c =
+pub offset_bounds-list-x : goal.offset_bounds-list-x
+offset_bounds-list-x c =
     let w = alive_below _ _ _ c.requires.member in
     let f = c.requires.chained.few in
     search rules

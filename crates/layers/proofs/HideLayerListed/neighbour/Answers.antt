@@ -4,7 +4,7 @@ use Rattle.graph.specs.Hiding.{marked, without}
 use Rattle.graph.proofs.Hiding.{left, left_none, left_le, left_hidden, left_shown, left_degree, left_rank, unheld_degree}
 use Rattle.graph.proofs.Graphs.{ranked_listed, degree_past}
 use Rattle.layers.proofs.HideLayerListed.neighbour.Goals as goal
-use Rattle.layers.proofs.HideLayerListed.neighbour.Goals.{in-Some+then-not-hides+else-before-i, in-Some+else-not-hides, in-default}
+use Rattle.layers.proofs.HideLayerListed.neighbour.Goals.{in-Some+then-not-hides+else-before-i, in-Some+else-not-hides, in_default}
 
 pub returns-then-not-holds : goal.returns-then-not-holds
 returns-then-not-holds g c =
@@ -37,7 +37,7 @@ loop-k-preserved g c =
     elim c.match-neighbour.branch [
       | in-Some+then-not-hides+else-before-i w ↦ let e = left_shown G h c.args.c c.loop-k.k w.in-Some.other w.in-Some.ensures.listed w.if-not-hides.ensures in (omega (arith, w.before-is), omega (arith, w.before-is, w.if-before-i.false))
       | in-Some+else-not-hides w ↦ let e = left_hidden G h c.args.c c.loop-k.k w.in-Some.other w.in-Some.ensures.listed w.if-not-hides.ensures in (omega (arith, w.before-is), omega (arith, w.before-is))
-      | in-default w ↦ let e = w.in-default.ensures.ranked in absurd (omega arith)
+      | in_default w ↦ let e = w.in_default.ensures.ranked in absurd (omega arith)
     ]
 
 pub returns : goal.returns

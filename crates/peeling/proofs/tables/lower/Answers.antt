@@ -29,8 +29,8 @@ positive : (out before counts : List ℕ) (n lost j : ℕ) → count (has (take 
 positive out before counts n lost j m fits l low pos =
     let h = low_positive out before counts n lost j m fits l low (pos (get_or out j 0) (at out lost j fits l)) in omega arith
 
-pub overflow-sub-counts : goal.overflow-sub-counts
-overflow-sub-counts c = (positive c.args.out.now c.args.counts.now c.loop-j.counts c.args.n c.args.lost c.loop-j.j c.requires.many c.requires.fits (omega arith) c.loop-j.invariant c.requires.positive)
+pub overflow_sub-counts : goal.overflow_sub-counts
+overflow_sub-counts c = (positive c.args.out.now c.args.counts.now c.loop-j.counts c.args.n c.args.lost c.loop-j.j c.requires.many c.requires.fits (omega arith) c.loop-j.invariant c.requires.positive)
 
 pub loop-j-preserved : goal.loop-j-preserved
 loop-j-preserved c =

@@ -10,7 +10,7 @@ loop-i-init g c =
     (c.blank-picture.ensures.size, drawn_none (paired G c.args.chosen.now) (joined c.blank-picture.result) c.blank-picture.ensures.none)
 
 pub loop-i-preserved : goal.loop-i-preserved
-loop-i-preserved g c = (c.draw-row.ensures.size ∙ c.loop-i.invariant.0, c.draw-row.ensures.drawn)
+loop-i-preserved g c = (c.draw_row.ensures.size ∙ c.loop-i.invariant.0, c.draw_row.ensures.drawn)
 
 pub returns : goal.returns
 returns g c =

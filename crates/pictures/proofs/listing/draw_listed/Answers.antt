@@ -14,8 +14,8 @@ loop-i-preserved g c =
     let G = g.S.Source.graph c.args.source.now in
     let law = g.met.S.Source.lawful c.args.source.now in
     let xs = c.args.chosen.now in (
-      c.join-near.ensures.size ∙ c.loop-i.invariant.0,
-      c.join-near.ensures.drawn (paired G xs) (λ a b. law.both (get_or xs a 0) (get_or xs b 0)) (λ a. law.never (get_or xs a 0)) (λ j. c.turn-to.ensures (get_or xs j 0)) c.loop-i.invariant.1,
+      c.join_near.ensures.size ∙ c.loop-i.invariant.0,
+      c.join_near.ensures.drawn (paired G xs) (λ a b. law.both (get_or xs a 0) (get_or xs b 0)) (λ a. law.never (get_or xs a 0)) (λ j. c.turn_to.ensures (get_or xs j 0)) c.loop-i.invariant.1,
     )
 
 pub returns : goal.returns

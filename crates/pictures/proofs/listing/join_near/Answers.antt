@@ -4,19 +4,19 @@ use Rattle.grids.proofs.Draws.{drawn_yes, drawn_no, drawn_row}
 use Rattle.pictures.specs.Pictures.{joined, places}
 use Rattle.pictures.specs.declared.shape.Picture.{Picture}
 use Rattle.pictures.proofs.listing.join_near.Goals as goal
-use Rattle.pictures.proofs.listing.join_near.Goals.{then-is-near, else-is-near}
+use Rattle.pictures.proofs.listing.join_near.Goals.{then-is_near, else-is_near}
 
 pub loop-j-preserved : goal.loop-j-preserved
 loop-j-preserved c =
     let J = joined c.loop-j.picture in
-    elim c.if-is-near.branch [
-      | then-is-near w ↦ (
+    elim c.if-is_near.branch [
+      | then-is_near w ↦ (
         ap places w.picture-is ∙ w.join.ensures.size ∙ c.loop-j.invariant.0,
-        λ e both never near old. drawn_yes e both never J (joined c.if-is-near.picture) c.args.i c.loop-j.j (sym (near c.loop-j.j) ∙ sym w.if-is-near.ensures) (λ a b. ap (λ (q : Picture). joined q a b) w.picture-is ∙ w.join.ensures.joins a b) (c.loop-j.invariant.1 e both never near old),
+        λ e both never near old. drawn_yes e both never J (joined c.if-is_near.picture) c.args.i c.loop-j.j (sym (near c.loop-j.j) ∙ sym w.if-is_near.ensures) (λ a b. ap (λ (q : Picture). joined q a b) w.picture-is ∙ w.join.ensures.joins a b) (c.loop-j.invariant.1 e both never near old),
       )
-      | else-is-near w ↦ (
+      | else-is_near w ↦ (
         ap places w.picture-is ∙ c.loop-j.invariant.0,
-        λ e both never near old a b. ap (λ (q : Picture). joined q a b) w.picture-is ∙ drawn_no e both never J c.args.i c.loop-j.j (sym (near c.loop-j.j) ∙ sym w.if-is-near.ensures) (c.loop-j.invariant.1 e both never near old) a b,
+        λ e both never near old a b. ap (λ (q : Picture). joined q a b) w.picture-is ∙ drawn_no e both never J c.args.i c.loop-j.j (sym (near c.loop-j.j) ∙ sym w.if-is_near.ensures) (c.loop-j.invariant.1 e both never near old) a b,
       )
     ]
 

@@ -20,7 +20,7 @@ returns-in-Order g c =
 
 pub returns-in-Try : goal.returns-in-Try
 returns-in-Try g c =
-    let s = served g.S.Source.graph c.args.planner.now c.try-floor.new.planner c.args.spare.now c.args.call (Try) c.try-floor.result _ c.in-Try.is refl refl c.requires c.try-floor.ensures in
+    let s = served g.S.Source.graph c.args.planner.now c.try_floor.new.planner c.args.spare.now c.args.call (Try) c.try_floor.result _ c.in-Try.is refl refl c.requires c.try_floor.ensures in
     record { serves = s.0; matched = s.1 }
 
 pub returns-in-Climb : goal.returns-in-Climb

@@ -1,7 +1,7 @@
 use Rattle.std.proofs.Common.{◌+◌, sym, subst, arith}
 use Rattle.stamps.proofs.Ranks.{First, first_none, first_more, first_all}
 use Rattle.stamps.proofs.writing.write.Goals as goal
-use Rattle.stamps.proofs.writing.write.Goals.{in-Some, in-default}
+use Rattle.stamps.proofs.writing.write.Goals.{in-Some, in_default}
 
 pub loop-i-init : goal.loop-i-init
 loop-i-init g c = first_none (g.S.Source.graph c.args.source.now) c.args.v c.args.stamp c.args.table.now
@@ -13,7 +13,7 @@ loop-i-preserved g c =
     elim c.match-neighbour.branch [
       | in-Some w ↦ let at = w.in-Some.ensures.ranked in
           subst (λ t. First G c.args.v c.args.stamp c.args.table.now t (c.loop-i.i + 1)) (sym w.table-is) (first_more G c.args.v c.args.stamp c.args.table.now c.loop-i.table c.loop-i.i w.in-Some.b c.loop-i.invariant (omega (arith, law.small, at.0)) at.1 at.2)
-      | in-default w ↦ absurd (omega (arith, w.in-default.ensures.ranked, c.degree-i-end.ensures))
+      | in_default w ↦ absurd (omega (arith, w.in_default.ensures.ranked, c.degree-i-end.ensures))
     ]
 
 pub returns : goal.returns

@@ -7,24 +7,24 @@ use Rattle.climbing.proofs.Later.{order_once}
 use Rattle.trying.proofs.Pulls.{front_is, block_number, order_dense}
 use Rattle.trying.proofs.pulling.block_size.Goals as goal
 
-pub returns-in-err-ordered : goal.returns-in-err-ordered
-returns-in-err-ordered g c =
+pub returns-in_err-ordered : goal.returns-in_err-ordered
+returns-in_err-ordered g c =
     let G = g.S.Source.graph c.args.source.now in
-    let p = err_from_is_err_and c.from-residual.result c.from-residual.ensures.1 in
+    let p = err_from_is_err_and c.from_residual.result c.from_residual.ensures.1 in
     let small = (g.met.S.Source.lawful c.args.source.now).small in
-    rw (p.1, p.2) (order_dense G _ _ small refl c.in-err-ordered.ensures.0)
+    rw (p.1, p.2) (order_dense G _ _ small refl c.in_err-ordered.ensures.0)
 
-pub returns-in-err-count : goal.returns-in-err-count
-returns-in-err-count g c =
+pub returns-in_err-count : goal.returns-in_err-count
+returns-in_err-count g c =
     let G = g.S.Source.graph c.args.source.now in
-    let p = c.in-ok-ordered.ensures in
+    let p = c.in_ok-ordered.ensures in
     let q = p.0 in
-    let e = front_is c.removal-order.new.order c.in-ok-ordered.ordered.len in
-    let yes-it = c.climb_all.ensures.succeeds c.in-ok-ordered.ordered.degeneracy (subst (IsOrder G) (sym e) q.order) (subst (λ xs. IsPeak G xs c.in-ok-ordered.ordered.degeneracy) (sym e) q.peak) p.1 in
-    absurd (false≢true (sym (ap (λ r. is_ok r) c.in-err-count.was) ∙ yes-it))
+    let e = front_is c.removal_order.new.order c.in_ok-ordered.ordered.len in
+    let yes-it = c.climb_all.ensures.succeeds c.in_ok-ordered.ordered.degeneracy (subst (IsOrder G) (sym e) q.order) (subst (λ xs. IsPeak G xs c.in_ok-ordered.ordered.degeneracy) (sym e) q.peak) p.1 in
+    absurd (false≢true (sym (ap (λ r. is_ok r) c.in_err-count.was) ∙ yes-it))
 
 pub returns : goal.returns
 returns g c =
     let G = g.S.Source.graph c.args.source.now in
-    let e = front_is c.removal-order.new.order c.in-ok-ordered.ordered.len in
-    block_number G c.climb_all.new.block c.in-ok-count.count (c.in-ok-count.ensures.cases.2 (order_once G _ (subst (IsOrder G) (sym e) c.in-ok-ordered.ensures.0.order)))
+    let e = front_is c.removal_order.new.order c.in_ok-ordered.ordered.len in
+    block_number G c.climb_all.new.block c.in_ok-count.count (c.in_ok-count.ensures.cases.2 (order_once G _ (subst (IsOrder G) (sym e) c.in_ok-ordered.ensures.0.order)))

@@ -11,8 +11,8 @@ below : (q : Kernel) (k : ℕ) → ((f : ℕ → ℕ) → Colours (places q) (jo
 below q k none =
     elim (cases_lt k 256) [ inl l ↦ l | inr l ↦ absurd (none _ (plenty (places q) (joined q) k (omega (arith, q.small)) q.loopless)) ]
 
-pub overflow-add-k : goal.overflow-add-k
-overflow-add-k c = let h = below c.args.kernel.now c.loop-k.k c.loop-k-test.ensures.none in omega arith
+pub overflow_add-k : goal.overflow_add-k
+overflow_add-k c = let h = below c.args.kernel.now c.loop-k.k c.loop-k-test.ensures.none in omega arith
 
 pub loop-k-smaller : goal.loop-k-smaller
 loop-k-smaller c = let h = below c.args.kernel.now c.loop-k.k c.loop-k-test.ensures.none in omega arith

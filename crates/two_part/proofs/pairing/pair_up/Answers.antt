@@ -10,7 +10,7 @@ loop-s-init c =
 
 pub loop-s-preserved : goal.loop-s-preserved
 loop-s-preserved c =
-    rows_turn c.args.us.now c.args.ws.now c.table-reached.result c.loop-s.s c.loop-s.best c.best-with.result c.max-best.result c.table-reached.ensures.places c.loop-s.invariant c.best-with.ensures c.max-best.ensures
+    rows_turn c.args.us.now c.args.ws.now c.table-reached.result c.loop-s.s c.loop-s.best c.best_with.result c.max-best.result c.table-reached.ensures.places c.loop-s.invariant c.best_with.ensures c.max-best.ensures
 
 pub returns : goal.returns
 returns c =

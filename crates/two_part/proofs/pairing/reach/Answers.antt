@@ -9,8 +9,8 @@ use Rattle.two_part.proofs.pairing.reach.Goals.{then-t-least, else-t-least}
 pub loop-t-init : goal.loop-t-init
 loop-t-init c = sym (count_zero (λ k. leb c.args.least (get_or c.args.tops.now k 0)))
 
-pub overflow-add-count : goal.overflow-add-count
-overflow-add-count c =
+pub overflow_add-count : goal.overflow_add-count
+overflow_add-count c =
     let h = count_le (λ k. leb c.args.least (get_or c.args.tops.now k 0)) c.loop-t.t-index in omega arith
 
 pub loop-t-preserved : goal.loop-t-preserved

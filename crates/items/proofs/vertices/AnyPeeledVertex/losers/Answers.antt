@@ -7,7 +7,7 @@ use Rattle.supports.proofs.Peels.{alive_yes, alive_no}
 use Rattle.supports.proofs.Queues.{Queue, queue_none, queue_skip, queue_push, queue_room, queue_fresh}
 use Rattle.cohesion.proofs.Near.{near, near_none, near_yes, near_no, near_out, near_losers}
 use Rattle.items.proofs.vertices.AnyPeeledVertex.losers.Goals as goal
-use Rattle.items.proofs.vertices.AnyPeeledVertex.losers.Goals.{in-Some+then-living-b-eq1, in-Some+else-living-b-eq1, in-default}
+use Rattle.items.proofs.vertices.AnyPeeledVertex.losers.Goals.{in-Some+then-living-b-eq1, in-Some+else-living-b-eq1, in_default}
 
 pub loop-j-init : goal.loop-j-init
 loop-j-init g c =
@@ -37,7 +37,7 @@ loop-j-preserved g c =
           subst₂ R (sym w.out-is) (sym w.len-is) (queue_push G.size (near G A x j) old c.loop-j.out 0 c.loop-j.len w.in-Some.b q (omega (arith, c.requires.lost)) r.0 (queue_fresh G.size (near G A x j) old c.loop-j.out c.loop-j.len w.in-Some.b q (near_out G A x j w.in-Some.b r)) (near G A x (j + 1)) (near_yes G A x j w.in-Some.b r (alive_yes G.size c.args.living.now w.in-Some.b r.0 w.if-living-b-eq1.true)))
       | in-Some+else-living-b-eq1 w ↦ let r = w.in-Some.ensures.ranked in
           subst₂ R (sym w.out-is) (sym w.len-is) (queue_skip G.size (near G A x j) (near G A x (j + 1)) old c.loop-j.out 0 c.loop-j.len q (near_no G A x j w.in-Some.b r (alive_no G.size c.args.living.now w.in-Some.b w.if-living-b-eq1.false)))
-      | in-default w ↦ absurd (omega (arith, w.in-default.ensures.ranked, c.degree-j-end.ensures))
+      | in_default w ↦ absurd (omega (arith, w.in_default.ensures.ranked, c.degree-j-end.ensures))
     ]
 
 pub returns : goal.returns

@@ -11,10 +11,10 @@ loop-i-init g c =
 pub loop-i-preserved : goal.loop-i-preserved
 loop-i-preserved g c =
     let xs = c.args.chosen.now in
-    rows_more (paired (g.S.Source.graph c.args.source.now) xs) (length xs) c.loop-i.i c.loop-i.rows c.fill-row.new.rows (omega arith) (omega (arith, c.loop-i.invariant.long)) c.loop-i.invariant c.fill-row.ensures.here c.fill-row.ensures.others
+    rows_more (paired (g.S.Source.graph c.args.source.now) xs) (length xs) c.loop-i.i c.loop-i.rows c.fill_row.new.rows (omega arith) (omega (arith, c.loop-i.invariant.long)) c.loop-i.invariant c.fill_row.ensures.here c.fill_row.ensures.others
 
-pub invariant-of-self : goal.invariant-of-self
-invariant-of-self g c =
+pub invariant_of-self : goal.invariant_of-self
+invariant_of-self g c =
     let xs = c.args.chosen.now in
     let lw = g.met.S.Source.lawful c.args.source.now in
     let s = c.loop-i.invariant in (

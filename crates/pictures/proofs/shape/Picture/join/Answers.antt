@@ -6,8 +6,8 @@ use Rattle.pictures.proofs.shape.Picture.join.Goals as goal
 after : (c : goal.After-with-2) (i j : ℕ) → linked (set (set c.args.self.now.rows c.args.a c.with.result) c.args.b c.with-2.result) i j ≡ (linked c.args.self.now.rows i j || ends c.args.a c.args.b i j)
 after c = linked_after c.args.self.now.rows c.args.a c.args.b c.with.result c.with-2.result (omega arith) (omega arith) c.requires.apart c.with.ensures c.with-2.ensures
 
-pub invariant-of-self : goal.invariant-of-self
-invariant-of-self c =
+pub invariant_of-self : goal.invariant_of-self
+invariant_of-self c =
     let rows = c.args.self.now.rows in
     let rows' = set (set rows c.args.a c.with.result) c.args.b c.with-2.result in
     let n = c.args.self.now.count in (

@@ -3,13 +3,13 @@ use Rattle.graph.proofs.Graphs.{vertices_le}
 use Rattle.progress.proofs.Steps.{unfound}
 use Rattle.progress.proofs.state.Progress.new.Goals as goal
 
-pub invariant-of-result : goal.invariant-of-result
-invariant-of-result g c =
+pub invariant_of-result : goal.invariant_of-result
+invariant_of-result g c =
     let G = g.S.Source.graph c.args.source.now in
     let l = vertices_le G in
     let s = (g.met.S.Source.lawful c.args.source.now).small in
-    (omega (arith, c.vertex-count-held.ensures), (omega arith, (omega arith, (omega arith, tt))))
+    (omega (arith, c.vertex_count-held.ensures), (omega arith, (omega arith, (omega arith, tt))))
 
 pub returns : goal.returns
 returns g c =
-    unfound (g.S.Source.graph c.args.source.now) _ refl c.vertex-count-held.ensures refl refl refl refl refl
+    unfound (g.S.Source.graph c.args.source.now) _ refl c.vertex_count-held.ensures refl refl refl refl refl

@@ -4,10 +4,10 @@ use Rattle.graph.proofs.Graphs.{vertices_le}
 use Rattle.progress.proofs.Steps.{order_holds, plan_dense}
 use Rattle.progress.proofs.state.Progress.order.Goals as goal
 
-pub returns-in-err-planned : goal.returns-in-err-planned
-returns-in-err-planned g c =
-    let p = err_from_is_err_and c.from-residual.result c.from-residual.ensures.1 in
-    let x = c.in-err-planned.ensures.0 in
+pub returns-in_err-planned : goal.returns-in_err-planned
+returns-in_err-planned g c =
+    let p = err_from_is_err_and c.from_residual.result c.from_residual.ensures.1 in
+    let x = c.in_err-planned.ensures.0 in
     let l = vertices_le (g.S.Source.graph c.args.source.now) in
     let s = (g.met.S.Source.lawful c.args.source.now).small in
     let d = plan_dense (g.S.Source.graph c.args.source.now) _ _ _ (omega arith) (omega arith) x in
@@ -15,5 +15,5 @@ returns-in-err-planned g c =
 
 pub returns : goal.returns
 returns g c =
-    let x = c.in-ok-planned.ensures in
-    (order_holds (g.S.Source.graph c.args.source.now) c.args.self.now.order c.args.self.now.drives _ x.0 x.1 refl refl refl c.standing-with-self.ensures, record { number = _; degeneracy = x.0.ordered.degeneracy; few = x.1 })
+    let x = c.in_ok-planned.ensures in
+    (order_holds (g.S.Source.graph c.args.source.now) c.args.self.now.order c.args.self.now.drives _ x.0 x.1 refl refl refl c.standing_with-self.ensures, record { number = _; degeneracy = x.0.ordered.degeneracy; few = x.1 })

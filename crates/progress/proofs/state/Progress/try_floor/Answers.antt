@@ -16,5 +16,5 @@ returns-else-won c g x law y =
     let o = y.kernel refl in
     let w = (when_false _ _ c.if-won.false c.in-Ok.ensures).none in
     let l : p.floor ≤ 64 = floor_low g x p y law in
-    let e : c.saturating-add-self.result ≡ p.floor + 1 = omega (arith, l, c.saturating-add-self.ensures) in
+    let e : c.saturating_add-self.result ≡ p.floor + 1 = omega (arith, l, c.saturating_add-self.ensures) in
     tried_no g x _ c.in-Ok.won c.if-won.false (try_no g x p y _ (record { held = refl; degeneracy = refl; order = refl; block = refl; size = refl }) refl e refl refl refl (record { core = o.core; left = o.left; lists = o.lists; draws = o.draws }) w)

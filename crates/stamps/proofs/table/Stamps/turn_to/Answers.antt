@@ -12,8 +12,8 @@ small g c =
       | else-self w ↦ omega (arith, ap (λ (s : Stamps). s.turn) w.self-is, w.if-self.false)
     ]
 
-pub overflow-add-turn : goal.overflow-add-turn
-overflow-add-turn g c = omega (arith, small g c)
+pub overflow_add-turn : goal.overflow_add-turn
+overflow_add-turn g c = omega (arith, small g c)
 
 pub returns : goal.returns
 returns g c =

@@ -5,8 +5,8 @@ use Rattle.tally.proofs.state.Tally.totals.Goals as goal
 pub loop-c-init : goal.loop-c-init
 loop-c-init c = out_none c.args.self.lengths
 
-pub overflow-add-sum : goal.overflow-add-sum
-overflow-add-sum c =
+pub overflow_add-sum : goal.overflow_add-sum
+overflow_add-sum c =
     let h = out_fits c.args.self.lengths c.loop-c.c c.args.self.clashes (omega arith) (omega (arith, c.args.self.small)) c.args.self.total c.args.self.few in
     omega (arith, c.loop-c.invariant.so_far, c.args.self.few)
 
@@ -19,8 +19,8 @@ whole c =
     let e : c.loop-c.c ≡ c.args.self.n = omega arith in
     subst (λ (i : ℕ). LayingOut c.args.self.lengths c.loop-c.next c.loop-c.sum i) e c.loop-c.invariant
 
-pub invariant-of-result : goal.invariant-of-result
-invariant-of-result c =
+pub invariant_of-result : goal.invariant_of-result
+invariant_of-result c =
     (c.args.self.small, (c.args.self.few, (out_within c.args.self.lengths c.loop-c.next c.loop-c.sum c.args.self.n c.args.self.clashes (omega arith) c.args.self.small (whole c) c.args.self.total c.args.self.few, tt)))
 
 pub returns : goal.returns
