@@ -16,6 +16,6 @@ pub loop-b-preserved : goal.loop-b-preserved
 loop-b-preserved c =
     let p = clash (sharing c.args.masks.now) c.args.a in
     elim c.if-joined.branch [
-      | then-joined w ↦ let e = count_more_yes p c.loop-b.b (sym w.if-joined.ensures) in omega (arith, w.total_is)
-      | else-joined w ↦ let e = count_more_no p c.loop-b.b (sym w.if-joined.ensures) in omega (arith, w.total_is)
+      | then-joined w ↦ let e = count_more_yes p c.loop-b.b (sym w.if-joined.ensures) in omega (arith, w.total-is)
+      | else-joined w ↦ let e = count_more_no p c.loop-b.b (sym w.if-joined.ensures) in omega (arith, w.total-is)
     ]

@@ -23,9 +23,9 @@ loop-i-preserved g c =
     let i = c.loop-i.i in
     elim c.match-neighbour.branch [
       | in-Some+then-a-b w ↦ let r = w.in-Some.ensures.ranked in
-          omega (arith, w.total_is, c.loop-i.invariant, ap length (met_yes G a i w.in-Some.b r w.if-a-b.true), length_push (met_edges G a i) (edge a w.in-Some.b))
+          omega (arith, w.total-is, c.loop-i.invariant, ap length (met_yes G a i w.in-Some.b r w.if-a-b.true), length_push (met_edges G a i) (edge a w.in-Some.b))
       | in-Some+else-a-b w ↦ let r = w.in-Some.ensures.ranked in
-          omega (arith, w.total_is, c.loop-i.invariant, ap length (met_no G a i w.in-Some.b r w.if-a-b.false))
+          omega (arith, w.total-is, c.loop-i.invariant, ap length (met_no G a i w.in-Some.b r w.if-a-b.false))
       | in_default w ↦ absurd (omega (arith, w.in_default.ensures.ranked, c.degree-i-end.ensures))
     ]
 

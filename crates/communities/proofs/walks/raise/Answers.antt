@@ -80,8 +80,8 @@ loop-at-preserved c =
     let R : List ℕ → ℕ → Type 0 = λ m t. Raised (met list S u r) n c.args.from c.args.to before m t in (
       walk_next list u at r wk pos nx,
       elim c.if-lives.branch [
-        | then-lives+then-marks-w w ↦ subst₂ R (sym w.marks-is) (sym w.total_is) (raised_yes (met list S u at) (met list S u r) n c.args.from c.args.to before c.loop-at.marks c.loop-at.total x (yes (alive_yes (length list) c.args.living.now (at - 1) le (eqb-true _ 1 (sym c.lives.ensures ∙ w.if-lives.true)))) c.requires.differ c.loop-at.invariant.1 lx (omega (arith, c.requires.room)) w.if-marks-w.true)
-        | else-lives w ↦ subst₂ R (sym w.marks-is) (sym w.total_is) (elim w.else-lives.branch [
+        | then-lives+then-marks-w w ↦ subst₂ R (sym w.marks-is) (sym w.total-is) (raised_yes (met list S u at) (met list S u r) n c.args.from c.args.to before c.loop-at.marks c.loop-at.total x (yes (alive_yes (length list) c.args.living.now (at - 1) le (eqb-true _ 1 (sym c.lives.ensures ∙ w.if-lives.true)))) c.requires.differ c.loop-at.invariant.1 lx (omega (arith, c.requires.room)) w.if-marks-w.true)
+        | else-lives w ↦ subst₂ R (sym w.marks-is) (sym w.total-is) (elim w.else-lives.branch [
           | else-lives-via-then-lives+else-marks-w v ↦ raised_no (met list S u at) (met list S u r) n c.args.from c.args.to before c.loop-at.marks c.loop-at.total x (yes (alive_yes (length list) c.args.living.now (at - 1) le (eqb-true _ 1 (sym c.lives.ensures ∙ v.if-lives.true)))) c.requires.differ c.loop-at.invariant.1 lx v.if-marks-w.false
           | else-lives-via-else-lives v ↦ raised_same (met list S u at) (met list S u r) n c.args.from c.args.to before c.loop-at.marks c.loop-at.total (met_no list S u at r wk pos nx (alive_no (length list) c.args.living.now (at - 1) (eqb-false _ 1 (sym c.lives.ensures ∙ v.if-lives.false)))) c.loop-at.invariant.1
         ])

@@ -16,8 +16,8 @@ overflow_add-count c =
 pub loop-t-preserved : goal.loop-t-preserved
 loop-t-preserved c =
     elim c.if-t-least.branch [
-      | then-t-least w ↦ let e = count_more_yes (λ k. leb c.args.least (get_or c.args.tops.now k 0)) c.loop-t.t-index (le-leb _ _ w.if-t-least.true) in omega (arith, w.count_is)
-      | else-t-least w ↦ let e = count_more_no (λ k. leb c.args.least (get_or c.args.tops.now k 0)) c.loop-t.t-index (lt-leb _ _ w.if-t-least.false) in omega (arith, w.count_is)
+      | then-t-least w ↦ let e = count_more_yes (λ k. leb c.args.least (get_or c.args.tops.now k 0)) c.loop-t.t-index (le-leb _ _ w.if-t-least.true) in omega (arith, w.count-is)
+      | else-t-least w ↦ let e = count_more_no (λ k. leb c.args.least (get_or c.args.tops.now k 0)) c.loop-t.t-index (lt-leb _ _ w.if-t-least.false) in omega (arith, w.count-is)
     ]
 
 pub returns : goal.returns

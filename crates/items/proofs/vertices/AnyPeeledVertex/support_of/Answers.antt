@@ -27,9 +27,9 @@ loop-j-preserved g c =
     let A = alive G.size c.args.living.now in
     elim c.match-neighbour.branch [
       | in-Some+then-living-b-eq1 w ↦ let r = w.in-Some.ensures.ranked in
-          w.total_is ∙ ap (λ (n : ℕ). n + 1) c.loop-j.invariant ∙ sym (near_count_yes G A c.args.i c.loop-j.j w.in-Some.b r (alive_yes G.size c.args.living.now w.in-Some.b r.0 w.if-living-b-eq1.true))
+          w.total-is ∙ ap (λ (n : ℕ). n + 1) c.loop-j.invariant ∙ sym (near_count_yes G A c.args.i c.loop-j.j w.in-Some.b r (alive_yes G.size c.args.living.now w.in-Some.b r.0 w.if-living-b-eq1.true))
       | in-Some+else-living-b-eq1 w ↦ let r = w.in-Some.ensures.ranked in
-          w.total_is ∙ c.loop-j.invariant ∙ sym (near_count_no G A c.args.i c.loop-j.j w.in-Some.b r (alive_no G.size c.args.living.now w.in-Some.b w.if-living-b-eq1.false))
+          w.total-is ∙ c.loop-j.invariant ∙ sym (near_count_no G A c.args.i c.loop-j.j w.in-Some.b r (alive_no G.size c.args.living.now w.in-Some.b w.if-living-b-eq1.false))
       | in_default w ↦ absurd (omega (arith, w.in_default.ensures.ranked, c.degree-j-end.ensures))
     ]
 
