@@ -5,7 +5,7 @@ use Rattle.std.proofs.lemmas.Bool.{cases_Bool, and_left, and_from, cases_eq, eq-
 use Rattle.finite.specs.Finite.{count, members, nth}
 use Rattle.finite.proofs.Counts.{count_same, count_empty, count_le, count_more}
 use Rattle.finite.proofs.Members.{members_some}
-use Rattle.finite.proofs.Rising.{count_picked, picked_rank, nth_getD}
+use Rattle.finite.proofs.Rising.{count_picked, picked_rank, nth-get_or}
 use Rattle.graph.specs.Graph.{Graph, Lawful, Ranked, held, clash, degree}
 use Rattle.graph.specs.Hiding.{marked, without, Hides, Shows}
 
@@ -76,7 +76,7 @@ pub left_more : (g : Graph) (h : ℕ → Bool) (c i b : ℕ) → Some b ≡ nth 
 unfolding left
 left_more g h c i b e =
     let q : ℕ → Bool = λ k. not (h (get_or (members (clash g c) g.size) k 0)) in
-    let d = nth_getD (members (clash g c) g.size) i b (sym e) in
+    let d = nth-get_or (members (clash g c) g.size) i b (sym e) in
     count_more q i ∙ rw d (flip (h b) (count q i))
   where
     flip : (x : Bool) (n : ℕ) → cond (not x) (n + 1) n ≡ cond x n (n + 1)

@@ -10,7 +10,7 @@ use Rattle.finite.proofs.Counts.{count_le, count_less, count_pos}
 use Rattle.finite.proofs.Masks.{bit_none}
 use Rattle.grids.specs.Classes.{put, walk, classes, fitting}
 use Rattle.grids.proofs.Classes.{put_at, put_new}
-use Rattle.grids.proofs.Empty.{getD_zeros}
+use Rattle.grids.proofs.Empty.{get_or-zeros}
 
 pub walk_empty : (rows : List ℕ) (m n : ℕ) (cs : List ℕ) → ((j : ℕ) → j < n → bit m j ≡ false) → walk rows m n cs ≡ cs
 unfolding walk
@@ -58,7 +58,7 @@ stands_none rows m n rest bits =
       room = refl;
       few = omega (arith, count_le (bit rest) 64);
       front = walk_same rows rest m n [] (λ j l. bits j ∙ rw (lt-ltb j n l) (whole (bit m j)));
-      zeros = λ k h. getD_zeros 64 k;
+      zeros = λ k h. get_or-zeros 64 k;
       within = λ j t. ltb-true j n (and_parts (bit m j) (ltb j n) (sym (bits j) ∙ t)).1;
     }
   where

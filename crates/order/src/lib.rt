@@ -84,8 +84,8 @@ fn fewest(alive: &[bool], left: &[u16], n: usize) -> Option<usize>
 
 // Takes x from the counts: each neighbour of x has one fewer.
 fn take_out<S: Listed>(source: &S, x: usize, left: &mut [u16])
-    requires source_in_bounds { (S.Source.graph source.now).size ≤ length left.old }
-    requires by_index { (c : ℕ) → c < (S.Source.graph source.now).size → clash (S.Source.graph source.now) x c ≡ true → 0 < slice_index left.old c }
+    requires fits { (S.Source.graph source.now).size ≤ length left.old }
+    requires living { (c : ℕ) → c < (S.Source.graph source.now).size → clash (S.Source.graph source.now) x c ≡ true → 0 < slice_index left.old c }
     ensures { (c : ℕ) → c < (S.Source.graph source.now).size → slice_index left.old c ≡ slice_index left.new c + (if clash (S.Source.graph source.now) x c then 1 else 0) }
 {
     for i in 0..source.degree(x) {

@@ -7,13 +7,13 @@ use Rattle.finite.specs.Masks.{bit}
 use Rattle.finite.proofs.Masks.{bit_zero}
 use Rattle.placings.specs.Rows.{linked}
 
-getD_zeros : (n i : ℕ) → ◌≡◌ {A = ℕ} (get_or (replicate n 0) i 0) 0
-getD_zeros zero i = refl
-getD_zeros (suc n) zero = refl
-getD_zeros (suc n) (suc i) = getD_zeros n i
+get_or-zeros : (n i : ℕ) → ◌≡◌ {A = ℕ} (get_or (replicate n 0) i 0) 0
+get_or-zeros zero i = refl
+get_or-zeros (suc n) zero = refl
+get_or-zeros (suc n) (suc i) = get_or-zeros n i
 
 pub blank_linked : (i j : ℕ) → linked (replicate 1024 0) i j ≡ false
-blank_linked i j = ap (λ (x : ℕ). bit x (j % 64)) (getD_zeros 1024 (4 * i + j / 64)) ∙ bit_zero (j % 64)
+blank_linked i j = ap (λ (x : ℕ). bit x (j % 64)) (get_or-zeros 1024 (4 * i + j / 64)) ∙ bit_zero (j % 64)
 
 -- one more bit in row i, at j
 module _ (rows : List ℕ) (i j m : ℕ) (fits : 4 * i + j / 64 < length rows) (jl : j < 256) (is : (b : ℕ) → bit m b ≡ (bit (get_or rows (4 * i + j / 64) 0) b || eqb b (j % 64))) where

@@ -30,9 +30,9 @@ sum_twice xs a b l m =
     let z = length-set xs a (get_or xs a 0 + 1) in
     let k = sum_once (set xs a (get_or xs a 0 + 1)) b (omega arith) in omega arith
 
-pub getD_twice : (xs : List ℕ) (a b c : ℕ) → a < length xs → b < length xs → a < b → get_or (twice xs a b) c 0 ≡ get_or xs c 0 + cond (eqb c a) 1 0 + cond (eqb c b) 1 0
+pub get_or-twice : (xs : List ℕ) (a b c : ℕ) → a < length xs → b < length xs → a < b → get_or (twice xs a b) c 0 ≡ get_or xs c 0 + cond (eqb c a) 1 0 + cond (eqb c b) 1 0
 unfolding twice
-getD_twice xs a b c l m d =
+get_or-twice xs a b c l m d =
     let ys = set xs a (get_or xs a 0 + 1) in
     let z = length-set xs a (get_or xs a 0 + 1) in
     elim (cases_eq c b) [
@@ -64,7 +64,7 @@ counted_more n es t u a b s z e1 e2 e3 e4 l m =
       size = e1 ∙ s.size;
       count = e2 ∙ ap (λ (x : ℕ). x + 1) s.count ∙ sym (length_push es (edge a b));
       last = e3 ∙ sym (latest_push es (edge a b));
-      rows = λ c k. let g = getD_twice t.lengths a b c (omega arith) (omega arith) l in let h = s.rows c k in let p = row_push es (edge a b) c in
+      rows = λ c k. let g = get_or-twice t.lengths a b c (omega arith) (omega arith) l in let h = s.rows c k in let p = row_push es (edge a b) c in
           ap (λ xs. get_or xs c 0) e4 ∙ g ∙ ap (λ (x : ℕ). x + cond (eqb c a) 1 0 + cond (eqb c b) 1 0) h ∙ sym p;
     }
 

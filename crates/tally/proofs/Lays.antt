@@ -10,7 +10,7 @@ use Rattle.listing.specs.Listing.{row_length, start}
 use Rattle.listing.proofs.Starts.{row_push}
 use Rattle.tally.specs.Laid.{Laid, laying}
 use Rattle.tally.specs.declared.laying.Laying.{Laying}
-use Rattle.tally.proofs.Counts.{twice, getD_twice}
+use Rattle.tally.proofs.Counts.{twice, get_or-twice}
 
 -- what the tests say before the rows are looked at
 pub record Placed (n : ℕ) (es : List Edge) (room a b : ℕ) : Type 0 where
@@ -50,8 +50,8 @@ unfolding laying
 fault_none n es done room a b p d u x y =
     rw (le-ltb room (length es + length es) p.room_is, inside n es room a b p, and_from (ltb a b) (above (latest done) (edge a b)) (lt-ltb a b d) u, or_from (leb (row_length es a) (row_length done a)) (leb (row_length es b) (row_length done b)) (lt-leb (row_length es a) (row_length done a) x) (lt-leb (row_length es b) (row_length done b) y)) refl
 
-pub getD_lower : (xs : List ℕ) (a b c : ℕ) → a < length xs → b < length xs → a < b → 0 < get_or xs a 0 → 0 < get_or xs b 0 → get_or xs c 0 ≡ get_or (set (set xs a (get_or xs a 0 - 1)) b (get_or (set xs a (get_or xs a 0 - 1)) b 0 - 1)) c 0 + cond (eqb c a) 1 0 + cond (eqb c b) 1 0
-getD_lower xs a b c l m d x y =
+pub get_or-lower : (xs : List ℕ) (a b c : ℕ) → a < length xs → b < length xs → a < b → 0 < get_or xs a 0 → 0 < get_or xs b 0 → get_or xs c 0 ≡ get_or (set (set xs a (get_or xs a 0 - 1)) b (get_or (set xs a (get_or xs a 0 - 1)) b 0 - 1)) c 0 + cond (eqb c a) 1 0 + cond (eqb c b) 1 0
+get_or-lower xs a b c l m d x y =
     let ys = set xs a (get_or xs a 0 - 1) in
     let z = length-set xs a (get_or xs a 0 - 1) in
     let t : get_or ys b 0 ≡ get_or xs b 0 = get_or-set_other xs a b (get_or xs a 0 - 1) 0 (λ q. omega arith) in
@@ -79,10 +79,10 @@ laid_on n es done t u a b s l1 l2 d m x y e1 e2 e3 e4 e5 =
       count = e2 ∙ s.count;
       last = e3 ∙ sym (latest_push done (edge a b));
       next = λ c k. let p = row_push done (edge a b) c in
-          let q = ap (λ (xs : List ℕ). get_or xs c 0) e4 ∙ getD_twice t.next a b c (omega arith) (omega arith) d in
+          let q = ap (λ (xs : List ℕ). get_or xs c 0) e4 ∙ get_or-twice t.next a b c (omega arith) (omega arith) d in
           let h = s.next c k in omega arith;
       left = λ c k. let p = row_push done (edge a b) c in
-          let q = getD_lower t.left a b c (omega arith) (omega arith) d x y in
+          let q = get_or-lower t.left a b c (omega arith) (omega arith) d x y in
           let r = ap (λ (xs : List ℕ). get_or xs c 0) e5 in
           let h = s.left c k in omega arith;
     }

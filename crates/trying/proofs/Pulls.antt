@@ -5,7 +5,7 @@ use Rattle.std.proofs.lemmas.Bool.Decides.{nat_tests}
 use Rattle.finite.specs.Finite.{count, has, members, nth}
 use Rattle.finite.proofs.Counts.{count_same}
 use Rattle.finite.proofs.Members.{length_members, count_rise, members_at, members_some}
-use Rattle.finite.proofs.Rising.{nth_getD}
+use Rattle.finite.proofs.Rising.{nth-get_or}
 use Rattle.graph.specs.Graph.{Graph, held, inside}
 use Rattle.graph.specs.Cliques.{Clique}
 use Rattle.graph.proofs.Graphs.{inside_same, vertices_le}
@@ -44,7 +44,7 @@ members_list s n below =
     let part : (i : ℕ) → i < length (members s n) → (get_or (members s n) i 0 < n) × (s (get_or (members s n) i 0) ≡ true) × (count s (get_or (members s n) i 0) ≡ i) = λ i l. members_some s n i (get_or (members s n) i 0) (nth_is (members s n) i l) in
     record {
       only = λ i l. (part i l).1;
-      all = λ c y. (count s c, (let a = count_rise s c n (below c y) y in let b = length_members s n in omega arith), nth_getD (members s n) (count s c) c (members_at s n c (count s c) (below c y) y refl));
+      all = λ c y. (count s c, (let a = count_rise s c n (below c y) y in let b = length_members s n in omega arith), nth-get_or (members s n) (count s c) c (members_at s n c (count s c) (below c y) y refl));
       once = λ i j l m e. sym (part i l).2 ∙ ap (count s) e ∙ (part j m).2;
     }
 

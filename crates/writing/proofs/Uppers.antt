@@ -6,7 +6,7 @@ use Rattle.std.proofs.lemmas.List.{append_assoc, append-nil, flat_map_more, take
 use Rattle.std.proofs.lemmas.Bool.{cases_Bool, lt-ltb, le-ltb}
 use Rattle.finite.specs.Finite.{count, members}
 use Rattle.finite.proofs.Members.{length_members, members_at}
-use Rattle.finite.proofs.Rising.{nth_getD}
+use Rattle.finite.proofs.Rising.{nth-get_or}
 use Rattle.graph.specs.declared.edge.Edge.{Edge}
 use Rattle.graph.specs.Graph.{Graph, clash, degree}
 use Rattle.graph.specs.Edges.{edge, edges_at, edges_below, edge_list}
@@ -76,7 +76,7 @@ row_members os ns w c l =
         let b = get_or ns (get_or os c 0 + k) 0 in
         let r = row_ranked os ns w c k b l h refl in
         let q = members_at (clash (listed os ns) c) (rows os) b k r.within r.joined r.rank in
-        let g = nth_getD (members (clash (listed os ns) c) (rows os)) k b q in
+        let g = nth-get_or (members (clash (listed os ns) c) (rows os)) k b q in
         let m = length_members (clash (listed os ns) c) (rows os) in
         let e = row_degree os ns w c l in
         get_or_default ns (get_or os c 0 + k) d 0 j ∙ sym g ∙ get_or_default (members (clash (listed os ns) c) (rows os)) k 0 d (omega arith)

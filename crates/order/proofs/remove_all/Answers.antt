@@ -33,7 +33,7 @@ bounds-order-len g c = (found g (goal.at.bounds-order-len g c).In-Some).2
 pub take_out-requires : goal.take_out-requires
 take_out-requires g c =
     let lw = g.met.S.Source.lawful c.args.source.now in
-    (omega (arith, lw.small), state_pos _ _ _ _ _ _ lw c.loop-x.invariant.3 (found g (goal.at.take_out-requires g c).In-Some).0)
+    record { fits = omega (arith, lw.small); living = state_pos _ _ _ _ _ _ lw c.loop-x.invariant.3 (found g (goal.at.take_out-requires g c).In-Some).0 }
 
 pub loop-x-smaller : goal.loop-x-smaller
 loop-x-smaller g c = omega (arith, (found g (goal.at.loop-x-smaller g c).In-Some).2)

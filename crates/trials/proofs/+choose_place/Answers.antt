@@ -37,8 +37,8 @@ choose-returns t c =
     chosen_next (places q) (joined q) k p base c.args.left rest j top old after c.choose-2.result (no_put (places q) (joined q) k p d old c.place.new.table (omega (arith, c.requires.ready.long, c.requires.place)) s) c.without.ensures.members
     (subst (λ (v : List ℕ). Chosen q k p base rest c.args.used v after c.choose-2.result) back c.choose-2.ensures)
 
-pub choose_place-requires : goal.choose_place-requires
-choose_place-requires t c =
+pub choose-place-requires : goal.choose-place-requires
+choose-place-requires t c =
     let q = c.args.kernel.now in
     let k = c.args.k in
     let p = c.args.c in

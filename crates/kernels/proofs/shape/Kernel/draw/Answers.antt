@@ -17,10 +17,8 @@ pub invariant_of-self : goal.invariant_of-self
 invariant_of-self g c =
     let xs = c.args.chosen.now in
     let lw = g.met.S.Source.lawful c.args.source.now in
-    let s = c.loop-i.invariant in (
-      omega arith,
-      (
-        (λ i j l. s.done i j (omega (arith, l.0)) l.1 ∙ lw.both (get_or xs i 0) (get_or xs j 0) ∙ sym (s.done j i (omega (arith, l.1)) l.0)),
-        ((λ i l. s.done i i (omega arith) l ∙ lw.never (get_or xs i 0)), tt),
-      ),
-    )
+    let s = c.loop-i.invariant in record {
+      small = omega arith;
+      even = λ i j l. s.done i j (omega (arith, l.0)) l.1 ∙ lw.both (get_or xs i 0) (get_or xs j 0) ∙ sym (s.done j i (omega (arith, l.1)) l.0);
+      loopless = λ i l. s.done i i (omega arith) l ∙ lw.never (get_or xs i 0);
+    }

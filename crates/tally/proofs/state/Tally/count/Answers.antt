@@ -41,7 +41,7 @@ overflow_add-self-2 c =
     let h = row_still c.args.self.now.lengths c.args.a c.args.b c.args.self.now.clashes (omega (arith, c.args.self.now.small)) (omega arith) c.args.self.now.total c.args.self.now.few in omega arith
 
 pub invariant_of-self : goal.invariant_of-self
-invariant_of-self c = (c.args.self.now.small, (omega arith, (sum_grown c.args.self.now.lengths c.args.a c.args.b c.args.self.now.clashes (omega (arith, c.args.self.now.small)) (omega (arith, c.args.self.now.small)) c.args.self.now.total, tt)))
+invariant_of-self c = record { small = c.args.self.now.small; few = omega arith; total = sum_grown c.args.self.now.lengths c.args.a c.args.b c.args.self.now.clashes (omega (arith, c.args.self.now.small)) (omega (arith, c.args.self.now.small)) c.args.self.now.total }
 
 pub returns : goal.returns
 returns c = λ n es s.

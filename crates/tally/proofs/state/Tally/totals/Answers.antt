@@ -14,14 +14,14 @@ pub loop-c-preserved : goal.loop-c-preserved
 loop-c-preserved c = out_more c.args.self.lengths c.loop-c.next c.loop-c.sum c.loop-c.c (omega arith) (omega (arith, c.args.self.small)) c.loop-c.invariant
 
 -- the loop is over
-whole : (c : goal.After-lengths·1) → LayingOut c.args.self.lengths c.loop-c.next c.loop-c.sum c.args.self.n
+whole : (c : goal.After-lengths-1) → LayingOut c.args.self.lengths c.loop-c.next c.loop-c.sum c.args.self.n
 whole c =
     let e : c.loop-c.c ≡ c.args.self.n = omega arith in
     subst (λ (i : ℕ). LayingOut c.args.self.lengths c.loop-c.next c.loop-c.sum i) e c.loop-c.invariant
 
 pub invariant_of-result : goal.invariant_of-result
 invariant_of-result c =
-    (c.args.self.small, (c.args.self.few, (out_within c.args.self.lengths c.loop-c.next c.loop-c.sum c.args.self.n c.args.self.clashes (omega arith) c.args.self.small (whole c) c.args.self.total c.args.self.few, tt)))
+    record { small = c.args.self.small; few = c.args.self.few; places = out_within c.args.self.lengths c.loop-c.next c.loop-c.sum c.args.self.n c.args.self.clashes (omega arith) c.args.self.small (whole c) c.args.self.total c.args.self.few }
 
 pub returns : goal.returns
 returns c = λ n es s.
