@@ -1,25 +1,23 @@
 -- What the bound leaves in the buffers, case by case.
-use Rattle.std.proofs.Common.{◌≡◌, ℕ, zero, suc, ◌+◌, ◌-◌, ◌<◌, ◌≤◌, min, Bool, true, false, cond, not, ◌&&◌, ◌||◌, eqb, ltb, ◌⊎◌, List, [], length, get_or, take, drop, None, sym, refl, ap, ◌∙◌, subst, inl, inr, arith}
-use Rattle.std.proofs.lemmas.Bool.{cases_Bool, cases_lt, both_ways, ltb-true, lt-ltb, le-ltb, cond-true, cond-false}
+use Rattle.std.proofs.Common.{◌≡◌, ℕ, ◌+◌, ◌-◌, ◌<◌, ◌≤◌, min, Bool, true, cond, ltb, List, length, get_or, take, None, sym, refl, ap, ◌∙◌, subst, inl, inr, arith}
+use Rattle.std.proofs.lemmas.Bool.{cases_Bool, cases_lt, both_ways, lt-ltb, le-ltb, cond-true, cond-false}
 use Rattle.std.proofs.lemmas.Bool.Decides.{nat_tests}
-use Rattle.finite.specs.Finite.{count}
-use Rattle.finite.specs.Supports.{Largest}
-use Rattle.finite.proofs.Counts.{count_le, count_pos}
+use Rattle.finite.proofs.Counts.{count_pos}
 use Rattle.graph.specs.declared.edge.Edge.{Edge}
-use Rattle.graph.specs.Graph.{Graph, Lawful, held, clash, inside, vertices}
-use Rattle.graph.specs.Edges.{edge_list, ends, Rising}
-use Rattle.graph.specs.Degeneracy.{IsDegeneracy, Sparse}
+use Rattle.graph.specs.Graph.{Graph, Lawful, held, vertices}
+use Rattle.graph.specs.Edges.{edge_list, Rising}
+use Rattle.graph.specs.Degeneracy.{IsDegeneracy}
 use Rattle.graph.proofs.Graphs.{held_below, clash_left, inside_le}
 use Rattle.forms.proofs.Edges.{edge_list_rising, edge_list_joins}
 use Rattle.supports.specs.Peel.{alive}
 use Rattle.supports.specs.Levels.{Deepest, DeepestIn}
-use Rattle.supports.proofs.Peels.{alive_below, alive_byte, alive_yes, largest_of_same}
-use Rattle.cohesion.specs.Community.{CommunityOf, HasEdge, IsCommunityNumber}
+use Rattle.supports.proofs.Peels.{alive_yes, largest_of_same}
+use Rattle.cohesion.specs.Community.{CommunityOf, IsCommunityNumber}
 use Rattle.cohesion.specs.Common.{edge_at, linked, common, Listing}
-use Rattle.cohesion.proofs.Places.{ends_own, joins_place, place_joins, place_one}
+use Rattle.cohesion.proofs.Places.{ends_own, place_joins, place_one}
 use Rattle.cohesion.proofs.Links.{linked_true, linked_from, common_le}
 use Rattle.cohesion.proofs.Bridge.{everywhere, largest_community, deepest_number, number_one}
-use Rattle.caps.specs.Cap.{edge_count, SmallerBound, IsCap, EdgesIn, CappedIn}
+use Rattle.caps.specs.Cap.{edge_count, IsCap, EdgesIn, CappedIn}
 
 pub degeneracy_le : (g : Graph) (d : ℕ) → IsDegeneracy g d → d ≤ g.size
 degeneracy_le g d h = h.least g.size (λ s w a y. (a, y, inside_le g s a))

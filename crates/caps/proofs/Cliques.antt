@@ -1,14 +1,14 @@
 -- Every clique has at most as many vertices as the bound.
-use Rattle.std.proofs.Common.{◌≡◌, ℕ, zero, suc, ◌+◌, ◌-◌, ◌<◌, ◌≤◌, min, Bool, true, false, cond, not, ◌&&◌, ◌||◌, eqb, ltb, ◌⊎◌, sym, refl, ap, ◌∙◌, subst, inl, inr, arith}
-use Rattle.std.proofs.lemmas.Bool.{cases_Bool, cases_eq, cases_lt, cases_order, both_ways, and_parts, and_from, and_left, and_right, eq-eqb, ne_eqb, eqb-true, eqb-false, not-true, not_from_false, lt-ltb}
+use Rattle.std.proofs.Common.{◌≡◌, ℕ, zero, suc, ◌+◌, ◌-◌, ◌<◌, ◌≤◌, min, Bool, true, not, ◌&&◌, eqb, sym, ap, ◌∙◌, subst, inl, inr, arith}
+use Rattle.std.proofs.lemmas.Bool.{cases_Bool, cases_lt, both_ways, and_parts, and_from, and_left, and_right, ne_eqb, eqb-false, not-true, not_from_false}
 use Rattle.std.proofs.lemmas.Bool.Decides.{nat_tests}
 use Rattle.finite.specs.Finite.{count}
-use Rattle.finite.proofs.Counts.{count_same, count_less, count_none, count_pos, count_empty, count_le}
+use Rattle.finite.proofs.Counts.{count_same, count_less, count_pos}
 use Rattle.graph.specs.Graph.{Graph, Lawful, held, clash, inside, vertices}
 use Rattle.graph.specs.Edges.{edge_list}
-use Rattle.graph.specs.Cliques.{Clique, CliqueOf}
+use Rattle.graph.specs.Cliques.{Clique}
 use Rattle.graph.specs.Degeneracy.{IsDegeneracy}
-use Rattle.graph.proofs.Graphs.{held_below, clash_left, clash_right}
+use Rattle.graph.proofs.Graphs.{held_below}
 use Rattle.degeneracy.proofs.Orders.{degeneracy_one}
 use Rattle.forms.proofs.Edges.{edge_list_joins}
 use Rattle.supports.specs.Peel.{but}
@@ -16,7 +16,7 @@ use Rattle.supports.proofs.Draining.{but_self, but_same}
 use Rattle.cohesion.specs.Community.{Tight, HasEdge, IsCommunityNumber}
 use Rattle.cohesion.proofs.Places.{joins_place}
 use Rattle.cohesion.proofs.Bridge.{number_one}
-use Rattle.caps.specs.Cap.{edge_count, SmallerBound, IsCap}
+use Rattle.caps.specs.Cap.{edge_count, IsCap}
 use Rattle.caps.specs.Theorems.{CapBounds, CliqueCommunity, OneCap}
 
 -- a set with a number has a member

@@ -1,12 +1,12 @@
 -- The core rule for colours.
-use Rattle.std.proofs.Common.{◌≡◌, ℕ, zero, suc, ◌+◌, ◌<◌, ◌≤◌, Bool, true, false, cond, not, ◌&&◌, ◌||◌, eqb, ltb, ◌⊎◌, sym, refl, ap, ◌∙◌, subst, inl, inr, arith}
-use Rattle.std.proofs.lemmas.Bool.{cases_Bool, cases_eq, cases_lt, both_ways, not-true, not-false, ltb-true, ltb-false, or_parts, or_cases}
+use Rattle.std.proofs.Common.{◌≡◌, ℕ, zero, suc, ◌<◌, ◌≤◌, Bool, true, false, not, ◌||◌, ltb, sym, ap, ◌∙◌, inl, inr, arith}
+use Rattle.std.proofs.lemmas.Bool.{both_ways, not-true, not-false, ltb-true, ltb-false, or_parts, or_cases}
 use Rattle.finite.specs.Finite.{count}
-use Rattle.finite.specs.Supports.{Within, Supported, Largest}
+use Rattle.finite.specs.Supports.{Within}
 use Rattle.finite.proofs.Counts.{count_less, count_pos}
 use Rattle.finite.proofs.Pigeons.{some_fails}
-use Rattle.graph.specs.Graph.{Graph, Lawful, held, clash, inside}
-use Rattle.graph.specs.Colourings.{ColouredIn, ColourableIn, Colourable}
+use Rattle.graph.specs.Graph.{Graph, Lawful, held, inside}
+use Rattle.graph.specs.Colourings.{ColourableIn}
 use Rattle.graph.specs.Degeneracy.{CoreOf}
 use Rattle.graph.proofs.Graphs.{held_below, inside_mono}
 use Rattle.colourings.proofs.Coloured.{coloured_fewer, coloured_same, coloured_add, free_colour, painted, painted_at, painted_off}

@@ -1,17 +1,16 @@
 -- Listing the edges of a graph, neighbour by neighbour.
-use Rattle.std.proofs.Common.{◌≡◌, ℕ, zero, suc, ◌+◌, ◌*◌, ◌<◌, ◌≤◌, Bool, true, false, cond, not, ◌&&◌, ◌||◌, eqb, ltb, ◌⊎◌, List, [], ◌∷◌, ◌++◌, map, length, get_or, take, drop, set, sym, refl, ap, ◌∙◌, subst, inl, inr, append_assoc, add-one, arith}
+use Rattle.std.proofs.Common.{◌≡◌, ℕ, zero, suc, ◌+◌, ◌*◌, ◌<◌, ◌≤◌, Bool, true, false, cond, ◌&&◌, ◌||◌, eqb, ltb, List, [], ◌∷◌, ◌++◌, map, length, sym, refl, ap, ◌∙◌, inl, inr, add-one, arith}
 use Rattle.std.proofs.lemmas.List.{length-append, length-map, map-append, append-nil, length_push}
-use Rattle.std.proofs.lemmas.Bool.{cases_Bool, cases_eq, cases_lt, both_ways, and_parts, or_left, or_right, lt-ltb, le-ltb, ltb-true, eq-eqb, ne_eqb}
+use Rattle.std.proofs.lemmas.Bool.{cases_Bool, cases_eq, cases_lt, and_parts, or_right, lt-ltb, le-ltb, ltb-true, eq-eqb, ne_eqb}
 use Rattle.std.proofs.lemmas.Bool.Decides.{nat_tests}
 use Rattle.finite.specs.Finite.{count, members}
 use Rattle.finite.proofs.Counts.{count_le, count_mono}
-use Rattle.finite.proofs.Members.{length_members, count_rise}
+use Rattle.finite.proofs.Members.{length_members}
 use Rattle.finite.proofs.Rising.{count_up}
 use Rattle.graph.specs.declared.edge.Edge.{Edge}
-use Rattle.graph.specs.Graph.{Graph, Lawful, held, clash, inside, degree}
-use Rattle.graph.specs.Edges.{edge, edges_at, edges_below, edge_list}
-use Rattle.cohesion.proofs.Near.{near, AtRank, near_none, near_yes, near_no, near_all, near_count_all}
-use Rattle.caps.specs.Cap.{edge_count, EdgesIn}
+use Rattle.graph.specs.Graph.{Graph, clash, inside, degree}
+use Rattle.graph.specs.Edges.{edge, edges_at, edges_below}
+use Rattle.cohesion.proofs.Near.{near, AtRank, near_none, near_yes, near_no, near_all}
 
 members_same : (p q : ℕ → Bool) (n : ℕ) → ((c : ℕ) → c < n → p c ≡ q c) → members p n ≡ members q n
 unfolding members

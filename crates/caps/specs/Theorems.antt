@@ -1,9 +1,8 @@
 -- What is known of cores, communities and the bound.
 use Rattle.std.specs.Prelude.{◌≡◌, ℕ, ◌-◌, ◌<◌, ◌≤◌, Bool, true, ◌≢◌}
-use Rattle.finite.specs.Finite.{count}
 use Rattle.finite.specs.Supports.{Within}
-use Rattle.graph.specs.Graph.{Graph, Lawful, held}
-use Rattle.graph.specs.Cliques.{Clique, CliqueOf}
+use Rattle.graph.specs.Graph.{Graph, Lawful}
+use Rattle.graph.specs.Cliques.{CliqueOf}
 use Rattle.graph.specs.Colourings.{Colourable, ColourableIn}
 use Rattle.graph.specs.Degeneracy.{CoreOf}
 use Rattle.cohesion.specs.Community.{Tight, CommunityOf, HasEdge, IsCommunityNumber}

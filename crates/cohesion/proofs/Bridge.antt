@@ -1,12 +1,11 @@
 -- The largest supported set of places in the list of edges is the community.
-use Rattle.std.proofs.Common.{◌≡◌, ℕ, zero, suc, ◌+◌, ◌<◌, ◌≤◌, Bool, true, false, cond, not, ◌&&◌, ◌||◌, eqb, ltb, ◌⊎◌, List, length, get_or, sym, refl, ap, ◌∙◌, subst, inl, inr, arith}
-use Rattle.std.proofs.lemmas.Bool.{cases_Bool, cases_lt, both_ways, and_parts, and_from, lt-ltb, ltb-true}
-use Rattle.finite.specs.Finite.{count, any}
-use Rattle.finite.specs.Supports.{Within, Supported, Largest}
-use Rattle.finite.proofs.Counts.{count_mono, count_same}
+use Rattle.std.proofs.Common.{◌≡◌, ℕ, ◌<◌, ◌≤◌, Bool, true, ◌&&◌, ltb, List, length, sym, ap, ◌∙◌, subst, inl, inr, arith}
+use Rattle.std.proofs.lemmas.Bool.{and_parts, and_from, lt-ltb, ltb-true}
+use Rattle.finite.specs.Supports.{Supported, Largest}
+use Rattle.finite.proofs.Counts.{count_mono}
 use Rattle.graph.specs.declared.edge.Edge.{Edge}
-use Rattle.graph.specs.Graph.{Graph, Lawful, held, clash}
-use Rattle.graph.specs.Edges.{ends, joins}
+use Rattle.graph.specs.Graph.{Graph, clash}
+use Rattle.graph.specs.Edges.{joins}
 use Rattle.supports.specs.Levels.{Deepest}
 use Rattle.cohesion.specs.Community.{Tight, CommunityOf, HasEdge, IsCommunityNumber}
 use Rattle.cohesion.specs.Common.{edge_at, linked, shared, common}

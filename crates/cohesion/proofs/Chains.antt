@@ -1,14 +1,12 @@
 -- Walking from edge to edge at one vertex, the last place first.
-use Rattle.std.proofs.Common.{◌≡◌, ℕ, zero, suc, ◌+◌, ◌-◌, ◌<◌, ◌≤◌, Bool, true, false, cond, not, ◌&&◌, ◌||◌, eqb, ltb, ◌⊎◌, List, length, get_or, set, None, sym, refl, ap, ◌∙◌, subst, inl, inr, add-one, arith, get_or-set_other, get_or-set_same}
-use Rattle.std.proofs.lemmas.Bool.{cases_Bool, cases_eq, cases_lt, both_ways, and_parts, and_from, and_left, and_right, or_cases, or_left, or_right, or_from, lt-ltb, le-ltb, ltb-true, ltb-false, eq-eqb, ne_eqb, eqb-true, not-true, not_from_false, not_from_true, cond-true, cond-false}
-use Rattle.std.proofs.lemmas.List.{length-set}
+use Rattle.std.proofs.Common.{◌≡◌, ℕ, zero, suc, ◌+◌, ◌-◌, ◌<◌, ◌≤◌, Bool, true, false, not, ◌&&◌, ◌||◌, eqb, ltb, List, length, sym, refl, ap, ◌∙◌, subst, inl, inr, add-one, arith}
+use Rattle.std.proofs.lemmas.Bool.{cases_Bool, cases_eq, cases_lt, both_ways, and_parts, and_from, or_cases, or_left, or_right, le-ltb, ltb-false, not-true, not_from_false, cond-true, cond-false}
 use Rattle.std.proofs.lemmas.Bool.Decides.{nat_tests}
-use Rattle.finite.specs.Finite.{count, any, has}
 use Rattle.graph.specs.declared.edge.Edge.{Edge}
-use Rattle.graph.specs.Edges.{ends, Rising}
-use Rattle.cohesion.specs.Common.{edge_at, linked, touches, far, last_at, Listing, Chained}
-use Rattle.cohesion.proofs.Places.{ends_touch, ends_far, smaller, below}
-use Rattle.cohesion.proofs.Links.{Link, linked_true, linked_from}
+use Rattle.graph.specs.Edges.{ends}
+use Rattle.cohesion.specs.Common.{edge_at, linked, touches, far, last_at}
+use Rattle.cohesion.proofs.Places.{ends_touch, ends_far}
+use Rattle.cohesion.proofs.Links.{linked_true, linked_from}
 
 pub last_le : (list : List Edge) (u j : ℕ) → last_at list u j ≤ j
 unfolding last_at

@@ -1,17 +1,17 @@
 -- Pairs that living edges of a rising list join, and what one edge less changes.
-use Rattle.std.proofs.Common.{◌≡◌, ℕ, zero, suc, ◌+◌, ◌<◌, ◌≤◌, Bool, true, false, cond, not, ◌&&◌, ◌||◌, eqb, ltb, ◌⊎◌, List, length, get_or, take, None, sym, refl, ap, ◌∙◌, subst, inl, inr, add-zero, arith}
-use Rattle.std.proofs.lemmas.Bool.{cases_Bool, cases_eq, cases_lt, both_ways, and_parts, and_from, and_left, and_right, and_cases, or_cases, or_left, or_right, lt-ltb, eq-eqb, ne_eqb, eqb-true, not_from_false, not_from_true, not-true, cond-true, cond-false}
+use Rattle.std.proofs.Common.{◌≡◌, ℕ, ◌+◌, ◌<◌, ◌≤◌, Bool, true, false, cond, not, ◌&&◌, ◌||◌, List, length, None, sym, refl, ap, ◌∙◌, subst, inl, inr, add-zero, arith}
+use Rattle.std.proofs.lemmas.Bool.{cases_Bool, cases_eq, both_ways, and_parts, and_from, and_left, and_right, or_cases, ne_eqb, not_from_false, not_from_true, not-true, cond-true, cond-false}
 use Rattle.std.proofs.lemmas.Bool.Decides.{nat_tests}
-use Rattle.finite.specs.Finite.{count, any, has}
+use Rattle.finite.specs.Finite.{count, has}
 use Rattle.finite.specs.Supports.{Within, Falls}
 use Rattle.finite.proofs.Counts.{any_true, count_le, count_mono, count_same, count_less}
-use Rattle.finite.proofs.Pigeons.{any_from, any_empty}
+use Rattle.finite.proofs.Pigeons.{any_from}
 use Rattle.graph.specs.declared.edge.Edge.{Edge}
 use Rattle.graph.specs.Edges.{ends, Rising}
 use Rattle.supports.specs.Peel.{but, Losers}
 use Rattle.supports.proofs.Draining.{but_other, but_from}
 use Rattle.cohesion.specs.Common.{edge_at, linked, shared, common, touches, far}
-use Rattle.cohesion.proofs.Places.{ends_cases, ends_both, ends_own, ends_touch, ends_far, touch_cases, far_a, far_b, smaller, below, place_one}
+use Rattle.cohesion.proofs.Places.{ends_cases, ends_both, ends_own, ends_touch, touch_cases, far_a, far_b, smaller, below, place_one}
 
 pub record Link (list : List Edge) (s : ℕ → Bool) (u w : ℕ) : Type 0 where
   pub place : ℕ

@@ -1,14 +1,14 @@
 -- The living neighbours of a vertex, taken by rank: those of rank below j.
-use Rattle.std.proofs.Common.{◌≡◌, ℕ, zero, suc, ◌+◌, ◌<◌, ◌≤◌, Bool, true, false, cond, not, ◌&&◌, ◌||◌, eqb, ltb, ◌⊎◌, List, [], ◌∷◌, ◌++◌, length, get_or, take, sym, refl, ap, ◌∙◌, subst, inl, inr, add-zero, arith}
+use Rattle.std.proofs.Common.{◌≡◌, ℕ, ◌+◌, ◌<◌, ◌≤◌, Bool, true, false, ◌&&◌, ◌||◌, eqb, ltb, List, length, take, sym, refl, ap, ◌∙◌, inl, inr, add-zero, arith}
 use Rattle.std.proofs.lemmas.List.{length-take-le}
-use Rattle.std.proofs.lemmas.Bool.{cases_Bool, cases_eq, cases_lt, both_ways, and_parts, and_from, and_left, and_right, lt-ltb, le-ltb, ltb-true, eq-eqb, ne_eqb, cond-true, cond-false}
+use Rattle.std.proofs.lemmas.Bool.{cases_Bool, cases_eq, cases_lt, both_ways, and_parts, and_from, and_left, and_right, lt-ltb, le-ltb, eq-eqb, ne_eqb, cond-true, cond-false}
 use Rattle.std.proofs.lemmas.Bool.Decides.{nat_tests}
 use Rattle.finite.specs.Finite.{count, has}
 use Rattle.finite.proofs.Counts.{count_same, count_less, count_empty, has_none}
 use Rattle.finite.proofs.Members.{count_rise, rank_one}
-use Rattle.graph.specs.Graph.{Graph, Lawful, held, clash, inside, degree}
+use Rattle.graph.specs.Graph.{Graph, Lawful, clash, inside, degree}
 use Rattle.graph.proofs.Graphs.{held_below, clash_right, inside_less_yes, inside_less_no}
-use Rattle.supports.specs.Peel.{Losers, alive, but}
+use Rattle.supports.specs.Peel.{Losers, but}
 use Rattle.supports.proofs.Draining.{but_self, but_same}
 use Rattle.supports.proofs.Queues.{Queue}
 

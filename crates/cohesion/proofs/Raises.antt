@@ -1,16 +1,16 @@
 -- Raising marks along a walk, gathering edges along it, and building the table.
-use Rattle.std.proofs.Common.{◌≡◌, ℕ, zero, suc, ◌+◌, ◌-◌, ◌<◌, ◌≤◌, Bool, true, false, cond, not, ◌&&◌, ◌||◌, eqb, ltb, ◌⊎◌, List, length, get_or, take, set, None, sym, refl, ap, ◌∙◌, subst, inl, inr, arith, get_or-set_other, get_or-set_same}
-use Rattle.std.proofs.lemmas.Bool.{cases_Bool, cases_eq, cases_lt, both_ways, and_parts, and_from, and_left, and_right, or_cases, or_left, or_right, lt-ltb, le-ltb, ltb-true, ltb-false, eq-eqb, ne_eqb, eqb-true, cond-true, cond-false}
+use Rattle.std.proofs.Common.{◌≡◌, ℕ, ◌+◌, ◌-◌, ◌<◌, ◌≤◌, Bool, true, false, cond, ◌&&◌, ◌||◌, eqb, ltb, List, length, get_or, take, set, None, sym, refl, ap, ◌∙◌, inl, inr, arith, get_or-set_other, get_or-set_same}
+use Rattle.std.proofs.lemmas.Bool.{cases_Bool, cases_eq, cases_lt, both_ways, and_from, and_left, or_cases, or_left, or_right, lt-ltb, le-ltb, eq-eqb, ne_eqb, eqb-true, cond-true, cond-false}
 use Rattle.std.proofs.lemmas.List.{length-set}
 use Rattle.std.proofs.lemmas.Bool.Decides.{nat_tests}
-use Rattle.finite.specs.Finite.{count, any, has}
+use Rattle.finite.specs.Finite.{count, has}
 use Rattle.finite.proofs.Counts.{count_empty, count_less, count_same}
 use Rattle.graph.specs.declared.edge.Edge.{Edge}
-use Rattle.graph.specs.Edges.{ends, Rising}
+use Rattle.graph.specs.Edges.{Rising}
 use Rattle.supports.proofs.Queues.{Queue}
-use Rattle.cohesion.specs.Common.{edge_at, linked, shared, common, touches, far, last_at, Listing, Chained}
+use Rattle.cohesion.specs.Common.{edge_at, touches, far, last_at, Chained}
 use Rattle.cohesion.proofs.Places.{smaller, below}
-use Rattle.cohesion.proofs.Chains.{Walk, over, met, met_all, last_le, last_gap, last_here, last_more_yes, last_more_no, last_none, walk_here, walk_within}
+use Rattle.cohesion.proofs.Chains.{Walk, over, last_le, last_gap, last_more_yes, last_more_no, last_none, walk_here, walk_within}
 
 -- the vertices seen had the mark `from`, and have the mark `to`
 unfoldable pub fresh : (ℕ → Bool) → ℕ → List ℕ → ℕ → Bool

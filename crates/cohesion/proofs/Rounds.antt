@@ -1,7 +1,7 @@
 -- Two rounds of marks: 1 at the vertices joined to one end of an edge, 2 at those joined to both.
-use Rattle.std.proofs.Common.{◌≡◌, ℕ, ◌+◌, ◌<◌, ◌≤◌, Bool, true, false, cond, not, ◌&&◌, ◌||◌, eqb, ltb, ◌⊎◌, List, [], length, get_or, take, None, sym, refl, ap, ◌∙◌, subst, inl, inr, arith}
+use Rattle.std.proofs.Common.{◌≡◌, ℕ, ◌<◌, ◌≤◌, Bool, true, false, cond, ◌&&◌, ◌||◌, eqb, ltb, List, [], length, get_or, take, None, sym, ap, ◌∙◌, inl, inr, arith}
 use Rattle.std.proofs.lemmas.List.{length-take-le}
-use Rattle.std.proofs.lemmas.Bool.{cases_Bool, cases_lt, both_ways, and_parts, and_from, and_left, and_right, lt-ltb, le-ltb, eq-eqb, ne_eqb, cond-true, cond-false}
+use Rattle.std.proofs.lemmas.Bool.{cases_Bool, cases_lt, and_parts, and_left, lt-ltb, le-ltb, cond-true, cond-false}
 use Rattle.std.proofs.lemmas.Bool.Decides.{nat_tests}
 use Rattle.finite.specs.Finite.{count, has}
 use Rattle.finite.proofs.Counts.{count_same, has_none, or_no}
@@ -10,7 +10,7 @@ use Rattle.graph.specs.Edges.{Rising}
 use Rattle.supports.specs.Peel.{Losers}
 use Rattle.supports.proofs.Queues.{Queue}
 use Rattle.cohesion.specs.Common.{edge_at, linked, shared, common, touches, far}
-use Rattle.cohesion.proofs.Places.{smaller, below, touch_cases, far_a, far_b}
+use Rattle.cohesion.proofs.Places.{smaller, below}
 use Rattle.cohesion.proofs.Links.{leans, leans_once, edge_losers, shared_swap}
 use Rattle.cohesion.proofs.Raises.{picked, picked_all}
 

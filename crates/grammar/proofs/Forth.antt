@@ -1,22 +1,19 @@
 -- A sheet of the right form states what it should.
-use Rattle.std.proofs.Common.{◌≡◌, ℕ, zero, suc, ◌+◌, ◌-◌, ◌^◌, ◌<◌, ◌≤◌, Bool, true, false, cond, ◌&&◌, ◌||◌, eqb, ltb, leb, ◌⊎◌, List, [], ◌∷◌, ◌++◌, map, length, get_or, Some, None, decimal, Option, sym, refl, ap, ◌∙◌, subst, inl, inr, arith}
+use Rattle.std.proofs.Common.{◌≡◌, ℕ, zero, suc, ◌+◌, ◌<◌, ◌≤◌, true, ltb, ◌⊎◌, List, [], ◌∷◌, ◌++◌, map, length, get_or, None, decimal, sym, refl, ap, ◌∙◌, subst, inl, inr, arith}
 use Rattle.std.specs.List.{flat_map}
-use Rattle.std.proofs.lemmas.List.{append_assoc, append-nil, length-append, length_push}
-use Rattle.std.proofs.lemmas.Bool.{cases_Bool, cases_lt, eqb-true, ltb-false, ltb-true, leb-true, leb-false, lt-leb, le-leb, lt-ltb, le-ltb, and_from, and_parts, ne_eqb, both_ways}
+use Rattle.std.proofs.lemmas.List.{append_assoc, append-nil, length_push}
+use Rattle.std.proofs.lemmas.Bool.{lt-leb, le-leb, lt-ltb, le-ltb, and_from}
 use Rattle.std.proofs.lemmas.Str.Parse.{not_in_digits}
 use Rattle.std.proofs.lemmas.Fmt.{digits_decimal}
-use Rattle.fields.specs.Numerals.{Numeral, numeral}
-use Rattle.fields.specs.Parts.{Parts, last, more, ahead, parts}
+use Rattle.fields.specs.Parts.{more, parts}
 use Rattle.fields.proofs.Numbers.{own}
 use Rattle.fields.proofs.Pieces.{Without, without_tail, parts_last, parts_more}
 use Rattle.graph.specs.declared.edge.Edge.{Edge}
 use Rattle.graph.proofs.Edges.{latest_push}
-use Rattle.grammar.specs.declared.Kind.{Kind}
-use Rattle.grammar.specs.declared.Kind.TheVariants.{Size, Clash, Remark, End, Other}
-use Rattle.grammar.specs.Lines.{field, size_of, letter, kind_of, Said, size, clash, remark, ended, wrong, both, said, says}
-use Rattle.graph.specs.Edges.{edge, before, latest, above, Rising, Good}
-use Rattle.grammar.specs.Sheet.{row, written, Item, pair, note, line_of, edges_of, Sound, Reads, Outcome, states, fault, Verdict, fine, refused, judge, judged, closed, turn, walk, opened, opening, outcome, plain}
-use Rattle.grammar.proofs.Lines.{join, parts_join, join_three, Row, says_clash, says_size, says_remark, says_ended, said_never, row_says, end_says, remark_says}
+use Rattle.grammar.specs.Lines.{field}
+use Rattle.graph.specs.Edges.{edge, latest, above, Rising, Good}
+use Rattle.grammar.specs.Sheet.{row, written, Item, pair, note, line_of, edges_of, Sound, Reads, states, fine, judge, walk, outcome}
+use Rattle.grammar.proofs.Lines.{Row, row_says, end_says, remark_says}
 
 pub without_append : (at : ℕ) (f g : List ℕ) → Without at f → Without at g → Without at (f ++ g)
 without_append at [] g v w k l e = w k l e

@@ -1,12 +1,9 @@
 -- The fields of a line, from what it says.
-use Rattle.std.proofs.Common.{◌≡◌, ℕ, zero, suc, ◌+◌, ◌-◌, ◌<◌, ◌≤◌, Bool, true, false, cond, eqb, ltb, ◌⊎◌, List, [], ◌∷◌, ◌++◌, length, get_or, Some, None, decimal, Option, sym, refl, ap, ◌∙◌, subst, inl, inr, arith}
-use Rattle.std.proofs.lemmas.List.{append_assoc}
-use Rattle.std.proofs.lemmas.Bool.{cases_Bool, eqb-true, ltb-false, ltb-true}
-use Rattle.std.proofs.lemmas.Bool.Decides.{nat_tests}
-use Rattle.fields.specs.Numerals.{Numeral, numeral}
+use Rattle.std.proofs.Common.{◌≡◌, ℕ, ◌<◌, ◌≤◌, Bool, true, false, eqb, ltb, ◌⊎◌, List, [], ◌∷◌, ◌++◌, Some, None, decimal, Option, sym, refl, ap, ◌∙◌, inl, inr, arith}
+use Rattle.std.proofs.lemmas.Bool.{cases_Bool, eqb-true, ltb-false}
+use Rattle.fields.specs.Numerals.{numeral}
 use Rattle.fields.specs.Parts.{Parts, last, more, ahead, parts}
 use Rattle.fields.proofs.Numbers.{numeral_of, numeral_some, numeral_unfair}
-use Rattle.fields.proofs.Pieces.{Without}
 use Rattle.grammar.specs.declared.Kind.{Kind}
 use Rattle.grammar.specs.declared.Kind.TheVariants.{Size, Clash, Remark, End, Other}
 use Rattle.grammar.specs.Lines.{field, size_of, letter, kind_of, Said, size, clash, remark, ended, wrong, both, said, says}

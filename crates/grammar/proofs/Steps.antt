@@ -1,23 +1,13 @@
 -- One line of a walk through a sheet.
-use Rattle.std.proofs.Common.{◌≡◌, ℕ, zero, suc, ◌+◌, ◌-◌, ◌^◌, ◌<◌, ◌≤◌, Bool, true, false, cond, ◌&&◌, ◌||◌, eqb, ltb, leb, ◌⊎◌, List, [], ◌∷◌, ◌++◌, map, length, get_or, Some, None, decimal, Option, sym, refl, ap, ◌∙◌, subst, inl, inr, arith}
-use Rattle.std.specs.List.{flat_map}
-use Rattle.std.proofs.lemmas.List.{append_assoc, append-nil, length-append, length_push, nil_from_length}
-use Rattle.std.proofs.lemmas.Bool.{cases_Bool, cases_lt, eqb-true, ltb-false, ltb-true, leb-true, leb-false, lt-leb, le-leb, lt-ltb, le-ltb, and_from, and_parts, ne_eqb, both_ways, and_left, and_right}
-use Rattle.std.proofs.lemmas.Str.Parse.{not_in_digits}
-use Rattle.std.proofs.lemmas.Fmt.{digits_decimal}
-use Rattle.fields.specs.Numerals.{Numeral, numeral}
-use Rattle.fields.specs.Parts.{Parts, last, more, ahead, parts}
-use Rattle.fields.proofs.Numbers.{own}
-use Rattle.fields.proofs.Pieces.{Without, without_tail, parts_last, parts_more}
+use Rattle.std.proofs.Common.{◌≡◌, ℕ, ◌+◌, ◌-◌, ◌<◌, ◌≤◌, true, false, cond, ◌&&◌, ltb, leb, ◌⊎◌, List, [], length, Option, refl, ap, inl, inr, arith}
+use Rattle.std.proofs.lemmas.List.{nil_from_length}
+use Rattle.std.proofs.lemmas.Bool.{lt-leb, le-leb, lt-ltb, le-ltb, and_from, and_left, and_right}
+use Rattle.fields.specs.Parts.{Parts, last, more, parts}
 use Rattle.graph.specs.declared.edge.Edge.{Edge}
-use Rattle.grammar.specs.declared.Kind.{Kind}
-use Rattle.grammar.specs.declared.Kind.TheVariants.{Size, Clash, Remark, End, Other}
-use Rattle.grammar.specs.Lines.{field, size_of, letter, kind_of, Said, size, clash, remark, ended, wrong, both, said, says}
-use Rattle.graph.specs.Edges.{edge, before, latest, above, Rising, Good}
-use Rattle.grammar.specs.Sheet.{row, written, Item, pair, note, line_of, edges_of, Sound, Reads, Outcome, states, fault, Verdict, fine, refused, judge, judged, closed, turn, walk, opened, opening, outcome, plain}
-use Rattle.grammar.proofs.Lines.{join, parts_join, join_three, Row, says_clash, says_size, says_remark, says_ended, said_never, row_says, end_says, remark_says}
-use Rattle.grammar.specs.Sheet.{limit}
-use Rattle.grammar.proofs.Forth.{reads_states}
+use Rattle.grammar.specs.Lines.{field, Said, size, says}
+use Rattle.graph.specs.Edges.{edge, above}
+use Rattle.grammar.specs.Sheet.{Outcome, states, fault, Verdict, fine, refused, judge, judged, closed, turn, walk, opened, outcome}
+use Rattle.grammar.proofs.Lines.{says_size}
 use Rattle.grammar.proofs.Back.{row_bytes}
 use Rattle.grammar.proofs.Forth.{row_line}
 

@@ -1,7 +1,7 @@
 -- What one line of a sheet says.
-use Rattle.std.specs.Prelude.{◌≡◌, ℕ, zero, suc, ◌-◌, Bool, true, false, cond, List, [], ◌∷◌, Some, None, Option, ◌==◌, nat_lt}
+use Rattle.std.specs.Prelude.{ℕ, zero, suc, Bool, true, false, cond, List, [], ◌∷◌, Some, None, Option, ◌==◌, nat_lt}
 use Rattle.fields.specs.Numerals.{numeral}
-use Rattle.fields.specs.Parts.{Parts, last, more, parts}
+use Rattle.fields.specs.Parts.{Parts, last, more}
 use Rattle.grammar.specs.declared.Kind.{Kind}
 use Rattle.grammar.specs.declared.Kind.TheVariants.{Size, Clash, Remark, End, Other}
 

@@ -1,12 +1,10 @@
 -- What a sheet states, and the fault of one that states nothing.
-use Rattle.std.specs.Prelude.{◌≡◌, ℕ, zero, suc, ◌+◌, ◌-◌, ◌<◌, ◌≤◌, Bool, true, false, cond, not, ◌&&◌, ◌||◌, ◌⊎◌, List, [], ◌∷◌, ◌++◌, map, length, Some, None, decimal, Option, ◌==◌, ◌≢◌, nat_le, nat_lt, slice_index}
+use Rattle.std.specs.Prelude.{◌≡◌, ℕ, ◌+◌, ◌-◌, ◌<◌, Bool, true, false, cond, ◌&&◌, ◌⊎◌, List, [], ◌∷◌, ◌++◌, length, decimal, Option, ◌==◌, ◌≢◌, nat_le, nat_lt, slice_index}
 use Rattle.std.specs.List.{flat_map}
 use Rattle.fields.specs.Parts.{Parts, last, more, parts}
 use Rattle.graph.specs.declared.edge.Edge.{Edge}
 use Rattle.graph.specs.Edges.{edge, latest, above, Good}
-use Rattle.grammar.specs.declared.Kind.{Kind}
-use Rattle.grammar.specs.declared.Kind.TheVariants.{Size, Clash, Remark, End, Other}
-use Rattle.grammar.specs.Lines.{field, letter, kind_of, Said, size, clash, remark, ended, wrong, says}
+use Rattle.grammar.specs.Lines.{field, letter, Said, size, clash, remark, ended, wrong, says}
 
 -- THE FORM
 

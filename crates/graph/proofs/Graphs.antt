@@ -1,10 +1,9 @@
-use Rattle.std.proofs.Common.{◌≡◌, ℕ, ◌+◌, ◌<◌, ◌≤◌, Bool, true, false, not, ◌&&◌, ltb, ◌⊎◌, Some, None, sym, refl, ap, ◌∙◌, inl, inr, arith}
-use Rattle.std.proofs.lemmas.Bool.{cases_Bool, cases_eq, and_parts, and_from, and_left, and_right, ltb-true, both_ways}
-use Rattle.std.proofs.lemmas.Bool.Decides.{nat_tests}
-use Rattle.finite.specs.Finite.{count, members, nth}
+use Rattle.std.proofs.Common.{◌≡◌, ℕ, ◌+◌, ◌<◌, ◌≤◌, Bool, true, false, ◌&&◌, ltb, Some, None, sym, ap, ◌∙◌, inl, inr}
+use Rattle.std.proofs.lemmas.Bool.{cases_Bool, cases_eq, and_parts, and_from, and_left, and_right, ltb-true}
+use Rattle.finite.specs.Finite.{members, nth}
 use Rattle.finite.proofs.Counts.{count_le, count_mono, count_same, count_less, count_pos}
 use Rattle.finite.proofs.Members.{members_at, members_past}
-use Rattle.graph.specs.Graph.{Graph, Lawful, Ranked, held, clash, inside, degree, vertices}
+use Rattle.graph.specs.Graph.{Graph, Ranked, held, clash, inside, degree, vertices}
 
 pub held_below : (g : Graph) (c : ℕ) → held g c ≡ true → c < g.size
 held_below g c e = ltb-true c g.size (and_parts (ltb c g.size) (g.listed c) e).0

@@ -7,7 +7,7 @@ use Rattle.finite.proofs.Counts.{count_le}
 use Rattle.finite.proofs.Splits.{count_split, any_from}
 use Rattle.grids.specs.Grid.{linked, Even, Loopless}
 use Rattle.grids.specs.Classes.{classes}
-use Rattle.grids.specs.Largest.{reaches, reaching, qualifies, IsLargest, largest}
+use Rattle.grids.specs.Largest.{reaches, reaching, IsLargest, largest}
 use Rattle.grids.proofs.Classes.{classes_cover, classes_few}
 use Rattle.grids.proofs.Largest.{largest_ge, largest_is}
 

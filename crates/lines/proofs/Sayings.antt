@@ -1,14 +1,14 @@
 -- What a line says, from its first field and what is left behind it.
-use Rattle.std.proofs.Common.{◌≡◌, ℕ, zero, suc, ◌+◌, ◌-◌, ◌<◌, ◌≤◌, Bool, true, false, cond, eqb, ltb, List, [], ◌∷◌, ◌++◌, Some, None, Option, sym, refl, ap, ◌∙◌, subst, arith}
+use Rattle.std.proofs.Common.{◌≡◌, ℕ, ◌+◌, ◌-◌, ◌<◌, ◌≤◌, Bool, true, false, ltb, List, Some, Option, sym, refl, ap, ◌∙◌, arith}
 use Rattle.std.proofs.lemmas.Bool.{lt-ltb, le-ltb}
 use Rattle.std.proofs.lemmas.Bool.Decides.{nat_tests}
 use Rattle.fields.specs.Numerals.{numeral}
 use Rattle.fields.specs.Parts.{Parts, last, more, parts}
 use Rattle.grammar.specs.declared.Kind.{Kind}
-use Rattle.grammar.specs.declared.Kind.TheVariants.{Size, Clash, Remark, End, Other}
-use Rattle.grammar.specs.Lines.{field, size_of, kind_of, Said, size, clash, remark, ended, wrong, both, said, says}
+use Rattle.grammar.specs.declared.Kind.TheVariants.{End}
+use Rattle.grammar.specs.Lines.{field, size_of, kind_of, Said, ended, wrong, both, said, says}
 use Rattle.lines.specs.Rest.{Next, fields_of, count_of}
-use Rattle.lines.specs.Kept.{IsFault, Figured, TwoKept, TwoFault, LineFault}
+use Rattle.lines.specs.Kept.{IsFault, TwoKept, TwoFault, LineFault}
 use Rattle.lines.specs.declared.Fault.{Fault}
 use Rattle.lines.specs.declared.Two.{Two}
 

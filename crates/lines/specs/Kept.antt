@@ -1,7 +1,7 @@
 -- What a line keeps of its fields, and what a fault says.
-use Rattle.std.specs.Prelude.{◌≡◌, ℕ, suc, ◌+◌, ◌-◌, ◌≤◌, Bool, true, false, ltb, List, [], Some, None, Option, nat_lt}
+use Rattle.std.specs.Prelude.{◌≡◌, ℕ, ◌-◌, ◌≤◌, Bool, false, ltb, List, Some, Option, nat_lt}
 use Rattle.fields.specs.Numerals.{numeral}
-use Rattle.fields.specs.Parts.{Parts, parts}
+use Rattle.fields.specs.Parts.{parts}
 use Rattle.graph.specs.Refusals.{number}
 use Rattle.grammar.specs.Lines.{field, Said, size, clash, remark, ended, wrong, both, says}
 use Rattle.grammar.specs.Sheet.{Outcome, fault, Verdict, refused}

@@ -3,7 +3,7 @@ use Rattle.std.proofs.Common.{◌≡◌, ℕ, zero, suc, ◌+◌, ◌-◌, ◌<�
 use Rattle.std.proofs.lemmas.List.{length-take-le, get_or-take}
 use Rattle.std.proofs.lemmas.Bool.{cases_Bool, cases_lt, both_ways, lt-ltb, le-ltb}
 use Rattle.std.proofs.lemmas.Bool.Decides.{nat_tests}
-use Rattle.finite.specs.Finite.{count, has}
+use Rattle.finite.specs.Finite.{count}
 use Rattle.finite.proofs.Counts.{count_same, has_true, has_at}
 use Rattle.finite.proofs.Rising.{Enumerates, count_enumerated}
 use Rattle.graph.specs.declared.edge.Edge.{Edge}

@@ -5,7 +5,7 @@ use Rattle.std.proofs.lemmas.Bool.{cases_Bool, eqb-true, eq-eqb, ne_eqb, cond_bo
 use Rattle.std.proofs.lemmas.Bool.Decides.{nat_tests}
 use Rattle.finite.specs.Finite.{has}
 use Rattle.graph.specs.declared.edge.Edge.{Edge}
-use Rattle.graph.specs.Edges.{before, above, ends, joins, Rising}
+use Rattle.graph.specs.Edges.{before, joins, Rising}
 use Rattle.listing.specs.Listing.{row_length, row_of}
 
 -- each number of the list passes

@@ -4,8 +4,7 @@ use Rattle.std.proofs.lemmas.List.Sums.{sum_by_more}
 use Rattle.std.proofs.lemmas.Bool.{cases_eq}
 use Rattle.std.proofs.lemmas.Bool.Decides.{nat_tests}
 use Rattle.graph.specs.declared.edge.Edge.{Edge}
-use Rattle.graph.proofs.Edges.{latest_push}
-use Rattle.graph.specs.Edges.{edge, latest, above, Rising}
+use Rattle.graph.specs.Edges.{latest, above, Rising}
 use Rattle.listing.specs.Listing.{row_length, start, LaidRows}
 use Rattle.listing.proofs.Starts.{start_all}
 

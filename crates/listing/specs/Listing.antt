@@ -1,5 +1,5 @@
 -- Rows of neighbours laid out edge by edge, one row behind the other.
-use Rattle.std.specs.Prelude.{◌≡◌, ℕ, zero, suc, ◌+◌, ◌<◌, ◌≤◌, Bool, cond, List, [], ◌∷◌, length, take, None, ◌==◌, slice_index}
+use Rattle.std.specs.Prelude.{◌≡◌, ℕ, zero, suc, ◌+◌, ◌<◌, ◌≤◌, cond, List, [], ◌∷◌, length, take, None, ◌==◌, slice_index}
 use Rattle.graph.specs.declared.edge.Edge.{Edge}
 use Rattle.graph.specs.Edges.{Good, Rising}
 use Rattle.rows.specs.Rows.{Lists}

@@ -1,15 +1,15 @@
 -- Putting back the vertices that were taken out.
-use Rattle.std.proofs.Common.{◌≡◌, ℕ, zero, suc, ◌+◌, ◌-◌, ◌<◌, ◌≤◌, max, Bool, true, false, List, [], length, get_or, take, set, sym, refl, ap, ◌∙◌, subst, inl, inr, arith, get_or-set_other, get_or-set_same}
+use Rattle.std.proofs.Common.{◌≡◌, ℕ, zero, suc, ◌+◌, ◌-◌, ◌<◌, ◌≤◌, max, true, false, List, [], length, get_or, take, set, sym, refl, ap, ◌∙◌, subst, inl, inr, arith, get_or-set_other, get_or-set_same}
 use Rattle.std.proofs.lemmas.List.{take_all, get_or-take, length-take-le}
 use Rattle.std.proofs.lemmas.Bool.{cases_Bool, cases_eq, both_ways}
 use Rattle.finite.specs.Finite.{has}
-use Rattle.finite.proofs.Counts.{has_true, has_at, has_take}
+use Rattle.finite.proofs.Counts.{has_true, has_at}
 use Rattle.graph.specs.Graph.{Graph, Lawful, held, clash}
 use Rattle.graph.specs.Colourings.{ColouredIn, Coloured}
 use Rattle.graph.proofs.Graphs.{clash_right, inside_mono}
 use Rattle.degeneracy.specs.Order.{survivors}
 use Rattle.degeneracy.specs.Greedy.{Lowest}
-use Rattle.degeneracy.proofs.Orders.{survivors_held, survivors_not, survivors_from, survivors_none}
+use Rattle.degeneracy.proofs.Orders.{survivors_not, survivors_none}
 use Rattle.degeneracy.proofs.Plans.{lowest_one, lowest_same, lowest_few, gone_after, lives_before}
 use Rattle.colourings.proofs.Coloured.{coloured_fewer, coloured_same, coloured_add}
 use Rattle.peels.specs.Peels.{Taken, Peeled, IsPutBack}

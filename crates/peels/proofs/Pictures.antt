@@ -1,5 +1,5 @@
 -- Colourings of places, and of the set that they show.
-use Rattle.std.proofs.Common.{◌≡◌, ℕ, ◌<◌, ◌≤◌, Bool, true, List, length, get_or, sym, ap, ◌∙◌, arith}
+use Rattle.std.proofs.Common.{◌≡◌, ℕ, ◌<◌, Bool, true, List, length, get_or, sym, ap, ◌∙◌, arith}
 use Rattle.graph.specs.Graph.{Graph, clash}
 use Rattle.graph.specs.Colourings.{ColouredIn}
 use Rattle.placings.specs.Colours.{Colours}

@@ -1,10 +1,10 @@
 -- The colours that a proper colouring uses, numbered from 1 by their lowest vertices.
-use Rattle.std.proofs.Common.{◌≡◌, ℕ, ◌+◌, ◌<◌, ◌≤◌, Bool, true, ◌&&◌, sym, ap, ◌∙◌, inl, inr, arith}
+use Rattle.std.proofs.Common.{◌≡◌, ℕ, ◌+◌, ◌<◌, true, sym, ap, ◌∙◌, inl, inr, arith}
 use Rattle.std.proofs.lemmas.Bool.{cases_Bool, cases_lt, both_ways}
 use Rattle.finite.specs.Finite.{count}
 use Rattle.finite.proofs.Members.{count_rise, rank_one}
 use Rattle.graph.specs.Graph.{Graph, held}
-use Rattle.graph.specs.Colourings.{Proper, ColouredIn, Colourable, leads, used}
+use Rattle.graph.specs.Colourings.{Proper, Colourable, leads, used}
 use Rattle.colourings.proofs.Used.{lead_of}
 
 -- the lowest vertex of the colour of c, or c where it is no vertex

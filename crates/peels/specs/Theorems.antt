@@ -1,6 +1,6 @@
 -- What peeling, cliques and colours have to do with one another.
-use Rattle.std.specs.Prelude.{◌≡◌, ℕ, ◌-◌, ◌<◌, ◌≤◌, max, Bool, true, ◌⊎◌, List, length, slice_index}
-use Rattle.graph.specs.Graph.{Graph, Lawful, held, clash}
+use Rattle.std.specs.Prelude.{◌≡◌, ℕ, ◌-◌, ◌<◌, ◌≤◌, max, Bool, ◌⊎◌, List, length, slice_index}
+use Rattle.graph.specs.Graph.{Graph, Lawful, clash}
 use Rattle.graph.specs.Colourings.{Proper, ColouredIn, Coloured, ColourableIn, Colourable, used}
 use Rattle.degeneracy.specs.Order.{survivors}
 use Rattle.placings.specs.Colours.{Colours}

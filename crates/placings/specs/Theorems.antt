@@ -1,5 +1,5 @@
 -- What is known of colourings place after place.
-use Rattle.std.specs.Prelude.{◌≡◌, ℕ, ◌+◌, ◌<◌, ◌≤◌, Bool}
+use Rattle.std.specs.Prelude.{ℕ, ◌+◌, ◌<◌, ◌≤◌, Bool}
 use Rattle.placings.specs.Colours.{Colours, Extends}
 
 -- where the colours given so far are up to `used`, and no colouring goes on with one up to `used + 1` at a place c that has none, none goes on at all

@@ -1,6 +1,7 @@
 -- What block, plan and cap leave in lent buffers.
 use Rattle.std.proofs.Common.{◌≡◌, ℕ, ◌+◌, ◌<◌, ◌≤◌, Bool, true, false, List, length, take, drop, Ok, Err, MatchBool, Result, sym, refl, ap, ◌∙◌, subst, MatchResult}
 use Rattle.std.proofs.lemmas.Bool.{false≢true}
+use Rattle.graph.specs.declared.Source.{Ghosts}
 use Rattle.graph.specs.declared.refusal.Refusal.{Refusal}
 use Rattle.graph.specs.declared.refusal.Refusal.TheVariants.{ShortBuffer}
 use Rattle.graph.specs.Graph.{Graph, held}
@@ -66,7 +67,7 @@ module _ (g : Graph) (x : Point) (p : Progress) (y : Found g x.standing x.climbs
     cases = a;
   }
 
-module _ {S B : Type 0} (graph : S → Graph) (g : Graph) (h : History) (p : Planner S B) (x : Explains graph g h p) where
+module _ {S B : Type 0} {gs : Ghosts S} (graph : S → Graph) (g : Graph) (h : History) (p : Planner S B gs) (x : Explains graph g h p) where
   pub blocks : (before after : List ℕ) (r : Result ℕ Refusal) → takes p.progress.standing operation.Block ≡ true → MatchResult r (λ n. (n ≡ p.progress.block_len) × (n ≤ length after) × (take n after ≡ take n p.progress.block) × (drop n after ≡ drop n before)) (λ e. (e ≡ ShortBuffer) × (length before < p.progress.block_len) × (after ≡ before)) → BlockTold (graph_at g (point_at g h)) (point_at g h) before after r
   blocks before after r t a =
       let e = ap (λ s. takes s operation.Block) (sym x.holds.standing) ∙ t in

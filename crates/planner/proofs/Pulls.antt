@@ -1,6 +1,7 @@
 -- What pull, try, put back and report leave of a planner that a history explains.
 use Rattle.std.proofs.Common.{◌≡◌, ℕ, ◌+◌, Bool, true, false, cond, List, ◌∷◌, Ok, Err, Result, sym, refl, ap, ◌∙◌, subst, MatchResult}
 use Rattle.std.proofs.lemmas.Bool.{false≢true}
+use Rattle.graph.specs.declared.Source.{Ghosts}
 use Rattle.graph.specs.declared.refusal.Refusal.{Refusal}
 use Rattle.graph.specs.Graph.{Graph, Lawful}
 use Rattle.graph.specs.Hiding.{without, marked}
@@ -47,7 +48,7 @@ takes_report Pulled = refl
 takes_report Won = refl
 takes_report Closed = refl
 
-module _ {S B : Type 0} (graph : S → Graph) (g : Graph) (h : History) (p : Planner S B) (x : Explains graph g h p) where
+module _ {S B : Type 0} {gs : Ghosts S} (graph : S → Graph) (g : Graph) (h : History) (p : Planner S B gs) (x : Explains graph g h p) where
   pub pulls : (r : Result (Unit {0}) Refusal) (q : Progress) → takes p.progress.standing operation.Pull ≡ true → ((y : Point) → Holds (without (graph p.layer.below) (marked p.layer.hidden)) Climbed y.climbs y.noes p.progress → PullAnswer (without (graph p.layer.below) (marked p.layer.hidden)) y (reply_of r) × MatchResult r (λ _. Holds (without (graph p.layer.below) (marked p.layer.hidden)) Pulled y.climbs y.noes q) (λ _. q ≡ p.progress)) → Fair g (point_at g h) Pull (reply_of r) × Explains graph g (event Pull (reply_of r) ∷ h) (record { layer = p.layer; bound = p.bound; progress = q })
   pulls r q t a =
       let y = point_at g h in

@@ -2,6 +2,7 @@
 use Rattle.std.proofs.Common.{◌≡◌, ℕ, ◌+◌, ◌-◌, Bool, true, false, not, ◌&&◌, ◌||◌, eqb, List, ◌∷◌, Ok, Err, MatchBool, Result, sym, refl, ap, ◌∙◌, subst, inl, inr, MatchResult}
 use mathlib.Core.Path.{fun_ext}
 use Rattle.std.proofs.lemmas.Bool.{false≢true}
+use Rattle.graph.specs.declared.Source.{Ghosts}
 use Rattle.graph.specs.declared.refusal.Refusal.{Refusal}
 use Rattle.graph.specs.declared.refusal.Refusal.TheVariants.{TooDense}
 use Rattle.graph.specs.Graph.{Graph, Lawful, vertices}
@@ -40,7 +41,7 @@ takes_climb Pulled e = absurd (false≢true e)
 takes_climb Won e = absurd (false≢true e)
 takes_climb Closed e = absurd (false≢true e)
 
-module _ {S B : Type 0} (graph : S → Graph) (g : Graph) (h : History) (p : Planner S B) (x : Explains graph g h p) where
+module _ {S B : Type 0} {gs : Ghosts S} (graph : S → Graph) (g : Graph) (h : History) (p : Planner S B gs) (x : Explains graph g h p) where
   -- the graph of the layer is the graph of the point
   pub layer_graph : without (graph p.layer.below) (marked p.layer.hidden) ≡ graph_at g (point_at g h)
   layer_graph =
@@ -61,7 +62,7 @@ module _ {S B : Type 0} (graph : S → Graph) (g : Graph) (h : History) (p : Pla
   stays c e f = record { below = x.below; hidden = x.hidden; fair = (f, x.fair); holds = x.holds }
 
   -- hide and show
-  module _ (q : Planner S B) (same : q.layer.below ≡ p.layer.below) (loose : Holds (without (graph q.layer.below) (marked q.layer.hidden)) Loose 0 0 q.progress) where
+  module _ (q : Planner S B gs) (same : q.layer.below ≡ p.layer.below) (loose : Holds (without (graph q.layer.below) (marked q.layer.hidden)) Loose 0 0 q.progress) where
     holds_loose : (hidden : ℕ → Bool) → ((k : ℕ) → marked q.layer.hidden k ≡ hidden k) → Holds (without g hidden) Loose 0 0 q.progress
     holds_loose hidden m =
         let e = ap (λ G. without G (marked q.layer.hidden)) (ap graph same ∙ x.below) ∙ ap (without g) (fun_ext m) in

@@ -37,8 +37,8 @@ fn judge_line<'a>(
     a: Figure<'a>,
     b: Figure<'a>,
 ) -> Result<Edge, Fault<'a>>
-    requires n_bound { size.n ≤ 1024 }
-    requires shown_value { (a.shown.now ≡ field (parts 9 text.now) 1) × (b.shown.now ≡ field (parts 9 text.now) 2) }
+    requires small { size.n ≤ 1024 }
+    requires shown { (a.shown.now ≡ field (parts 9 text.now) 1) × (b.shown.now ≡ field (parts 9 text.now) 2) }
     ensures { MatchResult result (λ e. (judge size.n size.clashes done previous a.entry.value b.entry.value ≡ fine) × (e ≡ edge a.entry.value b.entry.value)) (λ f. Refused (judge size.n size.clashes done previous a.entry.value b.entry.value) text.now at f) }
 {
     if done >= size.clashes {
@@ -124,9 +124,9 @@ fn early<'a>(at: usize) -> Fault<'a>
 
 // Reads the lines behind the size line, keeps the clashes for which there is room, and counts them.
 fn walk_lines<'a>(text: &'a [u8], size: Size, edges: &mut [Edge]) -> Result<u32, Fault<'a>>
-    requires n_bound { size.n ≤ 1024 }
-    requires clashes_bound { size.clashes ≤ 16384 }
-    requires text_len_bound { length text.now + 2 < 2 ^ 64 }
+    requires small { size.n ≤ 1024 }
+    requires few { size.clashes ≤ 16384 }
+    requires fits { length text.now + 2 < 2 ^ 64 }
     ensures { MatchResult result (λ d. Walked (walk size.n size.clashes [] 2 (parts 10 text.now)) size.n edges.old edges.new d) (λ f. walk size.n size.clashes [] 2 (parts 10 text.now) ≡ told f) }
 {
     let mut rest = text;

@@ -3,6 +3,7 @@ use Rattle.std.proofs.Common.{◌≡◌, ℕ, ◌+◌, ◌<◌, Bool, true, fals
 use Rattle.std.proofs.lemmas.List.{take_more}
 use Rattle.std.proofs.lemmas.Bool.{false≢true, cases_Bool}
 use Rattle.bounds.specs.declared.by_size.SizeBound.{SizeBound}
+use Rattle.graph.specs.declared.Source.{Ghosts}
 use Rattle.graph.specs.declared.refusal.Refusal.{Refusal}
 use Rattle.graph.specs.Graph.{Graph, Lawful}
 use Rattle.calls.specs.declared.standing.Standing.{Standing}
@@ -90,7 +91,7 @@ out_at g x c r false e s f = refl
 pub out_next : (g : Graph) (x : Point) (c : Call) (r : Reply) → slips c ≡ false → Fair g x c r → out (next g x (event c r)).standing ≡ out x.standing
 out_next g x c r s f = out_at g x c r (was_taken r) refl s f
 
-pub matched_same : {S B : Type 0} (graph : S → Graph) (p q : Planner S B) (spare : Planner Nothing SizeBound) (c : Call) (r : Reply) → slips c ≡ false → Matched graph p spare → Serves graph p c r q → Matched graph q spare
+pub matched_same : {S B : Type 0} {gs : Ghosts S} {ns : Ghosts Nothing} (graph : S → Graph) (p q : Planner S B gs) (spare : Planner Nothing SizeBound ns) (c : Call) (r : Reply) → slips c ≡ false → Matched graph p spare → Serves graph p c r q → Matched graph q spare
 matched_same graph p q spare c r s m v =
     let y = v m.base m.history m.explains in
     record {
@@ -113,7 +114,7 @@ after_push g h [] (y ∷ rs) c r a = absurd a
 after_push g h (x ∷ cs) [] c r a = absurd a
 after_push g h (x ∷ cs) (y ∷ rs) c r a = after_push g (event x y ∷ h) cs rs c r a.1
 
-carried_more : {S B : Type 0} (graph : S → Graph) (p q t : Planner S B) (cs : List Call) (c : Call) (r : Reply) (old new more : List Reply) → Carried graph p cs old new q → Serves graph q c r t → more ≡ new ++ r ∷ [] → Carried graph p (cs ++ c ∷ []) old more t
+carried_more : {S B : Type 0} {gs : Ghosts S} (graph : S → Graph) (p q t : Planner S B gs) (cs : List Call) (c : Call) (r : Reply) (old new more : List Reply) → Carried graph p cs old new q → Serves graph q c r t → more ≡ new ++ r ∷ [] → Carried graph p (cs ++ c ∷ []) old more t
 carried_more graph p q t cs c r old new more a s e = record {
   fresh = a.fresh ++ r ∷ [];
   joined = e ∙ ap (λ l. l ++ r ∷ []) a.joined ∙ append_assoc old a.fresh (r ∷ []);
@@ -124,17 +125,17 @@ carried_more graph p q t cs c r old new more a s e = record {
 }
 
 -- the same, in a loop over the calls
-pub carried_next : {S B : Type 0} (graph : S → Graph) (p q t : Planner S B) (cs : List Call) (i : ℕ) (d : Call) (r : Reply) (old new more : List Reply) → i < length cs → Carried graph p (take i cs) old new q → Serves graph q (get_or cs i d) r t → more ≡ new ++ r ∷ [] → Carried graph p (take (i + 1) cs) old more t
+pub carried_next : {S B : Type 0} {gs : Ghosts S} (graph : S → Graph) (p q t : Planner S B gs) (cs : List Call) (i : ℕ) (d : Call) (r : Reply) (old new more : List Reply) → i < length cs → Carried graph p (take i cs) old new q → Serves graph q (get_or cs i d) r t → more ≡ new ++ r ∷ [] → Carried graph p (take (i + 1) cs) old more t
 carried_next graph p q t cs i d r old new more l a s e =
     rw (take_more cs i d l) (carried_more graph p q t (take i cs) (get_or cs i d) r old new more a s e)
 
 -- a call under another name
-pub served : {S B : Type 0} (graph : S → Graph) (p q : Planner S B) (spare : Planner Nothing SizeBound) (call c : Call) (r a : Reply) → call ≡ c → r ≡ a → slips c ≡ false → Matched graph p spare → Serves graph p c a q → Serves graph p call r q × Matched graph q spare
+pub served : {S B : Type 0} {gs : Ghosts S} {ns : Ghosts Nothing} (graph : S → Graph) (p q : Planner S B gs) (spare : Planner Nothing SizeBound ns) (call c : Call) (r a : Reply) → call ≡ c → r ≡ a → slips c ≡ false → Matched graph p spare → Serves graph p c a q → Serves graph p call r q × Matched graph q spare
 served graph p q spare call c r a e f s m v =
     (subst (λ k. Serves graph p k r q) (sym e) (subst (λ k. Serves graph p c k q) (sym f) v), matched_same graph p q spare c a s m v)
 
 -- a whole string
-pub run_from : {S B : Type 0} (graph : S → Graph) (g : Graph) (p q : Planner S B) (cs : List Call) (old new : List Reply) → Lawful g → Explains graph g [] p → old ≡ [] → Carried graph p cs old new q → Run g cs new
+pub run_from : {S B : Type 0} {gs : Ghosts S} (graph : S → Graph) (g : Graph) (p q : Planner S B gs) (cs : List Call) (old new : List Reply) → Lawful g → Explains graph g [] p → old ≡ [] → Carried graph p cs old new q → Run g cs new
 run_from graph g p q cs old new law x e a =
     let f = a.joined ∙ ap (λ (l : List Reply). l ++ a.fresh) e in
     subst (Run g cs) (sym f) (runs_right g cs a.fresh law (a.fair g [] x).0)

@@ -7,6 +7,7 @@ use Rattle.graph.specs.declared.refusal.Refusal.{Refusal}
 use Rattle.graph.specs.Graph.{Graph, held, vertices}
 use Rattle.order.specs.Order.{Dense}
 use Rattle.degeneracy.proofs.Orders.{degeneracy_one, degeneracy_none}
+use Rattle.graph.specs.declared.Source.{Ghosts}
 use Rattle.bounds.specs.declared.by_size.SizeBound.{SizeBound}
 use Rattle.calls.specs.declared.standing.Standing.TheVariants.{Climbed, Pulled}
 use Rattle.calls.specs.declared.standing.Operation.TheVariants as operation
@@ -35,7 +36,7 @@ not_dense x d =
     none : (c : ℕ) → held (graph_at nothing x) c ≡ false
     none c = ap (λ b. b && false) (le-ltb c 0 (omega arith))
 
-pub spare_opened : (r : Result (Unit {0}) Refusal) (p q : Planner Nothing SizeBound) → Explains (λ _. nothing) nothing [] p → Serves (λ _. nothing) p Order (reply_of r) q → SpareAt Climbed q
+pub spare_opened : {ns : Ghosts Nothing} (r : Result (Unit {0}) Refusal) (p q : Planner Nothing SizeBound ns) → Explains (λ _. nothing) nothing [] p → Serves (λ _. nothing) p Order (reply_of r) q → SpareAt Climbed q
 unfolding vertices count
 spare_opened (Ok u) p q x s = record { history = event Order Done ∷ []; explains = (s nothing [] x).1; stands = refl }
 spare_opened (Err e) p q x s =
@@ -45,7 +46,7 @@ spare_opened (Err e) p q x s =
     ]
 
 -- where it is climbed, a pull is taken
-pub spare_pulled : (e : Refusal) (p q : Planner Nothing SizeBound) → SpareAt Climbed p → Serves (λ _. nothing) p Pull (Refused e) q → ⊥
+pub spare_pulled : {ns : Ghosts Nothing} (e : Refusal) (p q : Planner Nothing SizeBound ns) → SpareAt Climbed p → Serves (λ _. nothing) p Pull (Refused e) q → ⊥
 unfolding count
 spare_pulled e p q x s =
     let f = (s nothing x.history x.explains).0 in
@@ -59,16 +60,16 @@ spare_pulled e p q x s =
           | inr z ↦ absurd (refused_done e z.0)
         ]
 
-pub spare_pull : (p q : Planner Nothing SizeBound) → SpareAt Climbed p → Serves (λ _. nothing) p Pull Done q → SpareAt Pulled q
+pub spare_pull : {ns : Ghosts Nothing} (p q : Planner Nothing SizeBound ns) → SpareAt Climbed p → Serves (λ _. nothing) p Pull Done q → SpareAt Pulled q
 spare_pull p q x s =
     record { history = event Pull Done ∷ x.history; explains = (s nothing x.history x.explains).1; stands = refl }
 
 -- where it is pulled, a put back is taken
-pub spare_refused : (e : Refusal) (p q : Planner Nothing SizeBound) → SpareAt Pulled p → Serves (λ _. nothing) p PutBack (Refused e) q → ⊥
+pub spare_refused : {ns : Ghosts Nothing} (e : Refusal) (p q : Planner Nothing SizeBound ns) → SpareAt Pulled p → Serves (λ _. nothing) p PutBack (Refused e) q → ⊥
 spare_refused e p q x s =
     let f = (s nothing x.history x.explains).0 in
     refused_done e (when_true _ _ (ap (λ t. takes t operation.PutBack) x.stands) f)
 
-pub spare_put_back : (p q : Planner Nothing SizeBound) → SpareAt Pulled p → Serves (λ _. nothing) p PutBack Done q → SpareAt Climbed q
+pub spare_put_back : {ns : Ghosts Nothing} (p q : Planner Nothing SizeBound ns) → SpareAt Pulled p → Serves (λ _. nothing) p PutBack Done q → SpareAt Climbed q
 spare_put_back p q x s =
     record { history = event PutBack Done ∷ x.history; explains = (s nothing x.history x.explains).1; stands = ap put_back_to x.stands }

@@ -1,10 +1,10 @@
 -- Stamping the first i neighbours.
 use Rattle.std.proofs.Common.{◌≡◌, ℕ, ◌+◌, ◌<◌, ◌≤◌, Bool, true, false, cond, ◌&&◌, eqb, ltb, List, length, get_or, set, sym, refl, ap, ◌∙◌, inl, inr, arith}
 use Rattle.std.proofs.lemmas.List.{get_or-set_same, get_or-set_other}
-use Rattle.std.proofs.lemmas.Bool.{cases_Bool, cases_eq, both_ways, lt-ltb, eq-eqb, ne_eqb, and_from, and_left, and_right}
+use Rattle.std.proofs.lemmas.Bool.{cases_Bool, cases_eq, both_ways, lt-ltb, eq-eqb, ne_eqb, and_from, and_right}
 use Rattle.finite.specs.Finite.{count}
 use Rattle.finite.proofs.Members.{count_rise, rank_one}
-use Rattle.graph.specs.Graph.{Graph, clash, degree, held}
+use Rattle.graph.specs.Graph.{Graph, clash, degree}
 use Rattle.graph.proofs.Graphs.{held_below, clash_right}
 use Rattle.stamps.specs.Stamped.{Stamped}
 

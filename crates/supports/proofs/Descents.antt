@@ -1,14 +1,14 @@
 -- Peeling at ever higher thresholds until nothing is left.
-use Rattle.std.proofs.Common.{◌≡◌, ℕ, zero, suc, ◌+◌, ◌-◌, ◌<◌, ◌≤◌, Bool, true, false, cond, not, ◌&&◌, ◌||◌, eqb, ltb, ◌⊎◌, List, [], ◌∷◌, ◌++◌, length, get_or, take, drop, set, sym, refl, ap, ◌∙◌, subst, inl, inr, arith}
-use Rattle.std.proofs.lemmas.Bool.{cases_Bool, cases_eq, cases_lt, both_ways, cond-true, cond-false}
+use Rattle.std.proofs.Common.{◌≡◌, ℕ, ◌+◌, ◌-◌, ◌<◌, ◌≤◌, Bool, true, false, cond, ◌⊎◌, List, [], get_or, take, sym, refl, ap, ◌∙◌, subst, inl, inr, arith}
+use Rattle.std.proofs.lemmas.Bool.{cases_Bool, cases_lt, both_ways, cond-false}
 use Rattle.std.proofs.lemmas.Bool.Decides.{nat_tests}
 use Rattle.finite.specs.Finite.{count, has}
-use Rattle.finite.specs.Supports.{Falls, Within, Supported, Largest}
-use Rattle.finite.proofs.Counts.{count_mono, count_same, count_less, has_none}
-use Rattle.supports.specs.Peel.{Weak, Peels, Counted, PeeledIn, alive, but, without}
+use Rattle.finite.specs.Supports.{Falls, Within, Largest}
+use Rattle.finite.proofs.Counts.{count_mono, count_less, has_none}
+use Rattle.supports.specs.Peel.{Counted, PeeledIn, alive, but}
 use Rattle.supports.specs.Levels.{Deepest, DeepestIn}
 use Rattle.supports.proofs.Peels.{alive_below, alive_byte, alive_same, peels_member, largest_same, supported_less}
-use Rattle.supports.proofs.Draining.{but_other, but_self, but_same}
+use Rattle.supports.proofs.Draining.{but_self, but_same}
 
 -- x lives, and no living item has a lower count
 pub record LowestCount (n : ℕ) (living counts : List ℕ) (low : ℕ) : Type 0 where

@@ -1,13 +1,13 @@
 -- The state of peeling with a queue: the first `head` places are taken out, those up to `tail` wait.
-use Rattle.std.proofs.Common.{◌≡◌, ℕ, zero, suc, ◌+◌, ◌<◌, ◌≤◌, Bool, true, false, cond, not, ◌&&◌, ◌||◌, eqb, ltb, ◌⊎◌, List, [], ◌∷◌, ◌++◌, length, get_or, take, drop, set, sym, refl, ap, ◌∙◌, subst, inl, inr, arith, get_or-set_other, get_or-set_same}
+use Rattle.std.proofs.Common.{◌≡◌, ℕ, ◌+◌, ◌<◌, ◌≤◌, Bool, true, false, cond, not, ◌&&◌, ◌||◌, eqb, ltb, List, [], ◌∷◌, ◌++◌, length, get_or, take, drop, set, sym, refl, ap, ◌∙◌, subst, inl, inr, arith, get_or-set_other, get_or-set_same}
 use Rattle.std.proofs.lemmas.List.{take_more, take-take, length-take-le, get_or-take}
-use Rattle.std.proofs.lemmas.Bool.{cases_Bool, cases_eq, cases_lt, both_ways, or_cases, and_parts, ltb-true, ltb-false, lt-ltb, le-ltb, eqb-true, eq-eqb, ne_eqb, cond-true, cond-false}
+use Rattle.std.proofs.lemmas.Bool.{cases_Bool, cases_eq, cases_lt, both_ways, and_parts, ltb-true, ltb-false, lt-ltb, le-ltb, eqb-true, eq-eqb, ne_eqb, cond-true, cond-false}
 use Rattle.std.proofs.lemmas.Bool.Decides.{nat_tests}
 use Rattle.finite.specs.Finite.{count, has}
-use Rattle.finite.specs.Supports.{Falls, Largest}
-use Rattle.finite.proofs.Counts.{count_le, has_none, has_push, has_true, has_at}
+use Rattle.finite.specs.Supports.{Falls}
+use Rattle.finite.proofs.Counts.{count_le, has_none, has_push, has_at}
 use Rattle.supports.specs.Peel.{Weak, Peels, Counted, Losers, PeeledIn, alive, but, without}
-use Rattle.supports.proofs.Peels.{alive_below, alive_byte, alive_cleared, peels_none, peels_more, peels_all, peels_member, weak_same, largest_same, support_same, many_fresh}
+use Rattle.supports.proofs.Peels.{alive_below, alive_byte, alive_cleared, peels_none, peels_more, peels_all, weak_same, largest_same, support_same, many_fresh}
 
 -- the item x is cleared
 pub alive_set : (n : ℕ) (living : List ℕ) (x : ℕ) → n ≤ length living → (c : ℕ) → alive n (set living x 0) c ≡ but (alive n living) x c

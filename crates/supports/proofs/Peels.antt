@@ -1,13 +1,13 @@
 -- Taking out weak items until none is left leaves the one largest supported set.
-use Rattle.std.proofs.Common.{◌≡◌, ℕ, zero, suc, ◌+◌, ◌<◌, ◌≤◌, Bool, true, false, cond, not, ◌&&◌, ◌||◌, eqb, ltb, ◌⊎◌, List, [], ◌∷◌, ◌++◌, length, get_or, take, sym, refl, ap, ◌∙◌, subst, inl, inr, add-one, arith}
-use Rattle.std.proofs.lemmas.List.{take_all, take_more, length_push, length-take-le, get_or-take}
-use Rattle.std.proofs.lemmas.Bool.{cases_Bool, cases_eq, cases_lt, and_parts, and_from, and_left, and_right, both_ways, eq-eqb, ne_eqb, eqb-true, not-true, not_from_true, not_from_false, or_from, ltb-true, lt-ltb}
+use Rattle.std.proofs.Common.{◌≡◌, ℕ, zero, suc, ◌+◌, ◌<◌, ◌≤◌, Bool, true, false, cond, not, ◌&&◌, eqb, ltb, List, [], ◌∷◌, ◌++◌, length, get_or, take, sym, refl, ap, ◌∙◌, subst, inl, inr, add-one, arith}
+use Rattle.std.proofs.lemmas.List.{take_all, take_more, length-take-le, get_or-take}
+use Rattle.std.proofs.lemmas.Bool.{cases_Bool, cases_eq, cases_lt, and_parts, and_from, and_right, both_ways, eq-eqb, ne_eqb, eqb-true, not-true, not_from_false, ltb-true, lt-ltb}
 use Rattle.std.proofs.lemmas.Bool.Decides.{nat_tests}
 use Rattle.finite.specs.Finite.{count, has}
 use Rattle.finite.specs.Supports.{Within, Falls, Supported, Largest}
-use Rattle.supports.specs.Peel.{without, but, Weak, Peels, alive}
+use Rattle.supports.specs.Peel.{without, Weak, Peels, alive}
 use Rattle.supports.specs.Levels.{Shrinks}
-use Rattle.finite.proofs.Counts.{has_none, has_push, has_true, has_at, push_each, count_le, count_less, count_pos, count_same, count_empty}
+use Rattle.finite.proofs.Counts.{has_none, has_push, has_true, has_at, push_each, count_less, count_same, count_empty}
 
 pub without_none : (s : ℕ → Bool) (c : ℕ) → without s [] c ≡ s c
 unfolding without

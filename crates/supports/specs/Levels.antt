@@ -1,6 +1,6 @@
 -- The last level at which something stays.
-use Rattle.std.specs.Prelude.{◌≡◌, ℕ, ◌+◌, ◌≤◌, Bool, true, List, slice_index}
-use Rattle.finite.specs.Supports.{Within, Falls, Supported, Largest}
+use Rattle.std.specs.Prelude.{◌≡◌, ℕ, ◌≤◌, Bool, true, List, slice_index}
+use Rattle.finite.specs.Supports.{Within, Supported, Largest}
 use Rattle.supports.specs.Peel.{alive}
 
 -- s is what stays at k; no set with a member has more support than k, and s has a member where `all` has one

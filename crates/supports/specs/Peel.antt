@@ -1,5 +1,5 @@
 -- Taking out items with little support.
-use Rattle.std.specs.Prelude.{◌≡◌, ℕ, ◌+◌, ◌<◌, ◌≤◌, Bool, true, false, cond, not, ◌&&◌, List, length, take, drop, ◌==◌, ◌≢◌, nat_lt, slice_index}
+use Rattle.std.specs.Prelude.{◌≡◌, ℕ, ◌+◌, ◌<◌, ◌≤◌, Bool, true, cond, not, ◌&&◌, List, length, take, drop, ◌==◌, ◌≢◌, nat_lt, slice_index}
 use Rattle.finite.specs.Finite.{count, has}
 use Rattle.finite.specs.Supports.{Largest}
 

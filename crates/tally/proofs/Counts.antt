@@ -1,5 +1,5 @@
 -- Rows grow as edges are counted.
-use Rattle.std.proofs.Common.{◌≡◌, ℕ, ◌+◌, ◌<◌, ◌≤◌, Bool, true, false, cond, ◌&&◌, ◌||◌, eqb, ltb, leb, ◌⊎◌, List, [], ◌∷◌, ◌++◌, length, get_or, set, replicate, Some, None, sum, Option, sym, refl, ap, ◌∙◌, subst, inl, inr, arith, get_or-set_other, get_or-set_same}
+use Rattle.std.proofs.Common.{◌≡◌, ℕ, ◌+◌, ◌<◌, ◌≤◌, true, false, cond, ◌&&◌, ◌||◌, eqb, ltb, leb, ◌⊎◌, List, [], ◌∷◌, ◌++◌, length, get_or, set, replicate, Some, None, sum, sym, refl, ap, ◌∙◌, inl, inr, arith, get_or-set_other, get_or-set_same}
 use Rattle.std.proofs.lemmas.List.{length-set, length_push, get_or-replicate}
 use Rattle.std.proofs.lemmas.List.Sums.{sum_by-set, get_or-le-sum_by}
 use Rattle.std.proofs.lemmas.Bool.{cases_eq, eq-eqb, ne_eqb, le-leb, lt-leb, lt-ltb, le-ltb, or_left, or_right, or_from, and_from, and_left, and_right}
@@ -7,7 +7,6 @@ use Rattle.graph.specs.declared.edge.Edge.{Edge}
 use Rattle.graph.specs.declared.refusal.Refusal.TheVariants.{OutOfRange, Unordered, TooLarge}
 use Rattle.graph.specs.Edges.{edge, latest, above}
 use Rattle.graph.proofs.Edges.{latest_push}
-use Rattle.listing.specs.Listing.{row_length}
 use Rattle.listing.proofs.Starts.{row_push}
 use Rattle.tally.specs.Counted.{Counted, counting}
 use Rattle.tally.specs.declared.state.Tally.{Tally}

@@ -1,5 +1,5 @@
 -- The end of a laying.
-use Rattle.std.proofs.Common.{◌≡◌, ℕ, zero, suc, ◌+◌, ◌-◌, ◌<◌, ◌≤◌, true, false, ◌⊎◌, List, [], ◌∷◌, ◌++◌, length, get_or, take, drop, sym, refl, ap, ◌∙◌, subst, inl, inr, add-one, arith, length-drop, length-take, get_or-drop, get_or-take}
+use Rattle.std.proofs.Common.{◌≡◌, ℕ, zero, suc, ◌+◌, ◌-◌, ◌<◌, ◌≤◌, true, List, ◌++◌, length, get_or, take, drop, sym, ap, ◌∙◌, subst, inr, add-one, arith, length-take, get_or-drop, get_or-take}
 use Rattle.std.proofs.lemmas.List.{get_or-append_right, take_at}
 use Rattle.std.proofs.lemmas.Bool.{both_ways}
 use Rattle.graph.specs.declared.edge.Edge.{Edge}
@@ -7,9 +7,9 @@ use Rattle.graph.specs.declared.refusal.Refusal.{Refusal}
 use Rattle.graph.proofs.Refusals.{form_fault_bad}
 use Rattle.rows.specs.Rows.{Sound, Misfit, FirstBad, big}
 use Rattle.rows.proofs.Judged.{big_no}
-use Rattle.listing.specs.Listing.{row_length, start}
+use Rattle.listing.specs.Listing.{start}
 use Rattle.listing.proofs.Starts.{start_none, start_more}
-use Rattle.tally.specs.Laid.{Laid, Room, Full, Offsets, Finished, Broken, Unfinished}
+use Rattle.tally.specs.Laid.{Laid, Full, Offsets, Finished, Unfinished}
 use Rattle.tally.specs.declared.laying.Laying.{Laying}
 
 -- a laying whose rows are full, and the table of where they begin and end

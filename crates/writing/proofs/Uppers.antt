@@ -1,10 +1,10 @@
 -- The edges of a row, one neighbour at a time and all at once.
-use Rattle.std.proofs.Common.{◌≡◌, ℕ, zero, suc, ◌+◌, ◌-◌, ◌<◌, ◌≤◌, Bool, true, false, cond, ◌&&◌, ltb, ◌⊎◌, List, [], ◌∷◌, ◌++◌, map, length, get_or, take, drop, decimal, sym, refl, ap, ◌∙◌, subst, inl, inr, add-one, arith}
+use Rattle.std.proofs.Common.{◌≡◌, ℕ, zero, suc, ◌+◌, ◌-◌, ◌<◌, ◌≤◌, Bool, true, false, cond, ◌&&◌, ltb, List, [], ◌∷◌, ◌++◌, map, length, get_or, take, drop, decimal, sym, refl, ap, ◌∙◌, inl, inr, add-one, arith}
 use Rattle.fields.specs.Rows.{tabbed, numbers_line}
 use Rattle.std.specs.List.{flat_map}
 use Rattle.std.proofs.lemmas.List.{append_assoc, append-nil, flat_map_more, take_more, take_all, length-take-le, length-drop, get_or-take, get_or-drop, map-append, same_lists, get_or_default}
 use Rattle.std.proofs.lemmas.Bool.{cases_Bool, lt-ltb, le-ltb}
-use Rattle.finite.specs.Finite.{count, members}
+use Rattle.finite.specs.Finite.{members}
 use Rattle.finite.proofs.Members.{length_members, members_at}
 use Rattle.finite.proofs.Rising.{nth-get_or}
 use Rattle.graph.specs.declared.edge.Edge.{Edge}

@@ -1,4 +1,4 @@
-use Rattle.std.proofs.Common.{◌≡◌, ℕ, ◌<◌, ◌≤◌, cond, ltb, get_or}
+use Rattle.std.proofs.Common.{◌≡◌, ℕ, cond, ltb, get_or}
 use Rattle.graph.specs.Graph.{held}
 use Rattle.cores.proofs.fill_held.Given as goal
 

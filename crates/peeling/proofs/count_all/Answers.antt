@@ -1,4 +1,4 @@
-use Rattle.std.proofs.Common.{◌≡◌, sym, ◌∙◌, arith}
+use Rattle.std.proofs.Common.{arith}
 use Rattle.supports.proofs.Peels.{alive_below, alive_byte}
 use Rattle.peeling.proofs.count_all.Goals as goal
 

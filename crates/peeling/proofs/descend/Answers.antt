@@ -1,6 +1,6 @@
-use Rattle.std.proofs.Common.{◌≡◌, ℕ, ◌+◌, ◌-◌, ◌<◌, ◌≤◌, true, false, [], length, get_or, take, sym, refl, ap, ◌∙◌, subst, arith, rules}
+use Rattle.std.proofs.Common.{◌≡◌, ℕ, ◌-◌, false, [], take, sym, refl, ◌∙◌, subst, arith}
 use Rattle.std.proofs.lemmas.Bool.{both_ways}
-use Rattle.finite.specs.Finite.{count, has}
+use Rattle.finite.specs.Finite.{has}
 use Rattle.finite.proofs.Counts.{has_none}
 use Rattle.supports.specs.Peel.{alive}
 use Rattle.supports.specs.Levels.{DeepestIn}

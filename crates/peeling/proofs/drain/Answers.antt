@@ -1,10 +1,10 @@
-use Rattle.std.proofs.Common.{◌≡◌, ℕ, ◌+◌, ◌<◌, ◌≤◌, Bool, true, false, ◌&&◌, ◌||◌, ltb, [], length, get_or, take, drop, set, sym, refl, ap, ◌∙◌, subst, arith, rules}
+use Rattle.std.proofs.Common.{◌≡◌, ℕ, ◌&&◌, ltb, [], get_or, take, sym, refl, ap, ◌∙◌, subst, arith}
 use Rattle.std.proofs.lemmas.List.{length-take-le}
 use Rattle.finite.specs.Finite.{count, has}
-use Rattle.finite.proofs.Counts.{count_le, has_none, or_no}
-use Rattle.supports.specs.Peel.{alive, Losers}
+use Rattle.finite.proofs.Counts.{has_none, or_no}
+use Rattle.supports.specs.Peel.{alive}
 use Rattle.supports.proofs.Peels.{alive_below}
-use Rattle.supports.proofs.Draining.{Draining, Lowered, draining_none, draining_more, draining_all, head_below, tail_le, losers_positive, fresh_losers}
+use Rattle.supports.proofs.Draining.{Lowered, draining_none, draining_more, draining_all, head_below, tail_le, losers_positive, fresh_losers}
 use Rattle.supports.proofs.Queues.{lesser, lesser_all, lowered_from, drop_later}
 use Rattle.peeling.proofs.drain.Goals as goal
 

@@ -1,4 +1,4 @@
-use Rattle.std.proofs.Common.{◌≡◌, ℕ, ◌⊎◌, length, refl, subst₂, inl, inr, arith}
+use Rattle.std.proofs.Common.{ℕ, length, refl, subst₂, inl, inr, arith}
 use Rattle.peeling.specs.Peeling.{Fits, IsTooLarge}
 use Rattle.peeling.proofs.Fitting.{wiped_clear, wiped_then}
 use Rattle.peeling.proofs.peel.Goals as goal

@@ -7,10 +7,10 @@ pub returns-then-done-size : goal.returns-then-done-size
 returns-then-done-size c = record { verdict = judge_many _ _ _ _ _ _ (omega arith); line = refl; shown = c.letter.ensures }
 
 pub returns-then-a-size : goal.returns-then-a-size
-returns-then-a-size c = record { verdict = judge_first _ _ _ _ _ _ (omega arith) (omega arith); line = refl; shown = c.requires.1.0 }
+returns-then-a-size c = record { verdict = judge_first _ _ _ _ _ _ (omega arith) (omega arith); line = refl; shown = c.requires.shown.0 }
 
 pub returns-then-b-size : goal.returns-then-b-size
-returns-then-b-size c = record { verdict = judge_second _ _ _ _ _ _ (omega arith) (omega arith) (omega arith); line = refl; shown = c.requires.1.1 }
+returns-then-b-size c = record { verdict = judge_second _ _ _ _ _ _ (omega arith) (omega arith) (omega arith); line = refl; shown = c.requires.shown.1 }
 
 pub returns-then-is_above : goal.returns-then-is_above
 returns-then-is_above c = (judge_taken _ _ _ _ _ _ (omega arith) (omega arith) (omega arith) (omega arith) (sym c.if-is_above.ensures), refl)

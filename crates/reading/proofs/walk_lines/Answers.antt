@@ -9,7 +9,7 @@ use Rattle.lines.specs.Kept.{told, IsFault}
 use Rattle.reading.specs.Read.{Filled}
 use Rattle.reading.proofs.Walks.{Going, going_stop, going_wrong, going_size, going_refused, going_end, going_all, going_more, going_remark, filled_then, filled_else, going_same, shorter, cut_some, cut_none, kept_later}
 use Rattle.reading.proofs.walk_lines.Goals as goal
-use Rattle.reading.proofs.walk_lines.Goals.{In-Some, in-Clash+in_ok-e, then-done-edges, else-done-edges, in-Remark}
+use Rattle.reading.proofs.walk_lines.Goals.{In-Some, in-Clash+in_ok-e-in-Clash, then-done-edges, else-done-edges, in-Remark}
 
 -- the line that was cut off
 piece : (c : In-Some) → Cut 10 c.loop-more.rest.now c.cut-piece.result.front.now (Some c.in-Some.more.now)
@@ -32,24 +32,24 @@ returns-in-Size c =
     let i = subst (λ b. IsFault 9 c.loop-more.at 1 b c.misplaced.result) c.letter.ensures c.misplaced.ensures in
     going_size _ _ _ c.loop-more.rest.now c.loop-more.at c.loop-more.done c.loop-more.previous _ c.loop-more.edges c.cut-piece.result.front.now c.in-Some.more.now _ _ _ c.loop-more.invariant (piece (goal.at.returns-in-Size c).In-Some) k.0 i
 
-pub returns-in_err-e : goal.returns-in_err-e
-returns-in_err-e c =
-    let p = err_from_is_err_and c.from_residual-in_err-e.result c.from_residual-in_err-e.ensures.1 in
+pub returns-in_err-e-in-Clash : goal.returns-in_err-e-in-Clash
+returns-in_err-e-in-Clash c =
+    let p = err_from_is_err_and c.from_residual-in_err-e-in-Clash.result c.from_residual-in_err-e-in-Clash.ensures.1 in
     let k = kept_later c.loop-more.at c.cut-piece.result.front.now c.in_ok-read_line.field-0 (Clash c.in-Clash.a c.in-Clash.b) c.loop-more.invariant.later c.in_ok-read_line.ensures c.in-Clash.is in
-    let g = going_refused _ _ _ c.loop-more.rest.now c.loop-more.at c.loop-more.done c.loop-more.previous _ c.loop-more.edges c.cut-piece.result.front.now c.in-Some.more.now _ _ _ c.loop-more.invariant (piece (goal.at.returns-in_err-e c).In-Some) k.0 c.in_err-e.ensures in
+    let g = going_refused _ _ _ c.loop-more.rest.now c.loop-more.at c.loop-more.done c.loop-more.previous _ c.loop-more.edges c.cut-piece.result.front.now c.in-Some.more.now _ _ _ c.loop-more.invariant (piece (goal.at.returns-in_err-e-in-Clash c).In-Some) k.0 c.in_err-e-in-Clash.ensures in
     rw (p.1, p.2) g
 
-pub returns-in_err-finish : goal.returns-in_err-finish
-returns-in_err-finish c =
-    let p = err_from_is_err_and c.from_residual-in_err-finish.result c.from_residual-in_err-finish.ensures.1 in
+pub returns-in_err-finish-in-End : goal.returns-in_err-finish-in-End
+returns-in_err-finish-in-End c =
+    let p = err_from_is_err_and c.from_residual-in_err-finish-in-End.result c.from_residual-in_err-finish-in-End.ensures.1 in
     let k = kept_later c.loop-more.at c.cut-piece.result.front.now c.in_ok-read_line.field-0 End c.loop-more.invariant.later c.in_ok-read_line.ensures c.in-End.is in
-    let g = going_end _ _ _ c.loop-more.rest.now c.loop-more.at c.loop-more.done c.loop-more.previous _ c.loop-more.edges c.cut-piece.result.front.now c.in-Some.more.now (λ _ _. told c.in_err-finish.field-0.0) c.loop-more.invariant (piece (goal.at.returns-in_err-finish c).In-Some) k c.in_err-finish.ensures in
+    let g = going_end _ _ _ c.loop-more.rest.now c.loop-more.at c.loop-more.done c.loop-more.previous _ c.loop-more.edges c.cut-piece.result.front.now c.in-Some.more.now (λ _ _. told c.in_err-finish-in-End.field-0.0) c.loop-more.invariant (piece (goal.at.returns-in_err-finish-in-End c).In-Some) k c.in_err-finish-in-End.ensures in
     rw (p.1, p.2) g
 
 pub returns-in-End : goal.returns-in-End
 returns-in-End c =
     let k = kept_later c.loop-more.at c.cut-piece.result.front.now c.in_ok-read_line.field-0 End c.loop-more.invariant.later c.in_ok-read_line.ensures c.in-End.is in
-    going_all _ _ _ c.loop-more.rest.now c.loop-more.at c.loop-more.done c.loop-more.previous _ c.loop-more.edges c.cut-piece.result.front.now c.in-Some.more.now c.loop-more.invariant (piece (goal.at.returns-in-End c).In-Some) k c.in_ok-finish.ensures
+    going_all _ _ _ c.loop-more.rest.now c.loop-more.at c.loop-more.done c.loop-more.previous _ c.loop-more.edges c.cut-piece.result.front.now c.in-Some.more.now c.loop-more.invariant (piece (goal.at.returns-in-End c).In-Some) k c.in_ok-finish-in-End.ensures
 
 pub loop-more-smaller : goal.loop-more-smaller
 loop-more-smaller c = omega (arith, shorter _ _ _ (piece (goal.at.loop-more-smaller c).In-Some))
@@ -60,10 +60,10 @@ loop-more-preserved c =
     let g = c.loop-more.invariant in
     let before = c.args.edges.now in
     elim c.match-branch-2.branch [
-      | in-Clash+in_ok-e w ↦
+      | in-Clash+in_ok-e-in-Clash w ↦
           let k = kept_later c.loop-more.at c.cut-piece.result.front.now c.in_ok-read_line.field-0 (Clash w.in-Clash.a w.in-Clash.b) g.later c.in_ok-read_line.ensures w.in-Clash.is in
-          let j = w.in_ok-e.ensures in
-          let e = w.in_ok-e.e in
+          let j = w.in_ok-e-in-Clash.ensures in
+          let e = w.in_ok-e-in-Clash.e in
           let new = w.if-done-edges.edges in
           let f : (length new ≡ length c.loop-more.edges) × ((es : List Edge) → length es ≡ c.loop-more.done → Filled before c.loop-more.edges es → Filled before new (es ++ e ∷ [])) =
           elim w.if-done-edges.branch [

@@ -1,4 +1,3 @@
-use Rattle.std.proofs.Common.{◌≤◌, arith}
 use Rattle.supports.proofs.Peels.{largest_one, shrinks}
 use Rattle.supports.proofs.stands.Goals as goal
 

@@ -1,5 +1,3 @@
-use Rattle.std.proofs.Common.{vec_items}
-use Rattle.rows.specs.Rows.{Sound}
 use Rattle.rows.proofs.Props.{sound_of}
 use Rattle.writing.proofs.write.Goals as goal
 

@@ -1,9 +1,6 @@
-use Rattle.std.proofs.Common.{◌≡◌, ℕ, ◌/◌, List, ◌++◌, length, vec_items, sym, ap, ◌∙◌, arith, rules}
-use Rattle.std.specs.List.{flat_map}
-use Rattle.graph.specs.Edges.{edge_list, edges_below}
+use Rattle.std.proofs.Common.{◌≡◌, ◌/◌, length, arith}
+use Rattle.graph.specs.Edges.{edge_list}
 use Rattle.rows.specs.Rows.{listed, rows}
-use Rattle.rows.proofs.Lawful.{offsets_some}
-use Rattle.grammar.specs.Sheet.{row, edge_row}
 use Rattle.forms.proofs.Forms.{edges_count}
 use Rattle.writing.proofs.Uppers.{below_none, below_more, all_rows, all_written}
 use Rattle.writing.proofs.write_lists.Goals as goal

@@ -1,4 +1,4 @@
-use Rattle.std.proofs.Common.{length, refl, arith, rules}
+use Rattle.std.proofs.Common.{length, refl, arith}
 use Rattle.rows.proofs.Lawful.{row_stands}
 use Rattle.writing.proofs.Uppers.{row_written}
 use Rattle.writing.proofs.write_row.Goals as goal

@@ -1,4 +1,4 @@
-use Rattle.std.proofs.Common.{ℕ, List, vec_items, sym, ap, ◌∙◌, arith, rules}
+use Rattle.std.proofs.Common.{vec_items, sym, ap, ◌∙◌, arith}
 use Rattle.std.proofs.lemmas.List.{append-nil}
 use Rattle.writing.specs.Upper.{upper}
 use Rattle.writing.proofs.Uppers.{upper_more, upper_skip, upper_all}

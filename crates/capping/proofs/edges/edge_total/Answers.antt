@@ -1,4 +1,4 @@
-use Rattle.std.proofs.Common.{◌≡◌, ℕ, ◌+◌, ◌<◌, ◌≤◌, length, sym, refl, ap, ◌∙◌, arith, rules}
+use Rattle.std.proofs.Common.{◌≡◌, ◌+◌, ◌<◌, length, sym, ap, ◌∙◌, arith, rules}
 use Rattle.graph.specs.Edges.{edges_below}
 use Rattle.caps.proofs.Rows.{below_none, below_length, below_le}
 use Rattle.capping.proofs.edges.edge_total.Goals as goal

@@ -1,6 +1,6 @@
-use Rattle.std.proofs.Common.{◌≡◌, ℕ, ◌+◌, ◌<◌, ◌≤◌, List, ◌++◌, length, take, drop, sym, refl, ap, ◌∙◌, subst, arith, rules}
+use Rattle.std.proofs.Common.{◌≡◌, ◌+◌, List, ◌++◌, length, take, drop, sym, refl, ap, ◌∙◌, subst, arith}
 use Rattle.graph.specs.declared.edge.Edge.{Edge}
-use Rattle.graph.specs.Edges.{edges_at, edges_below, edge_list}
+use Rattle.graph.specs.Edges.{edges_at, edges_below}
 use Rattle.supports.proofs.Queues.{drop_later}
 use Rattle.caps.specs.Cap.{edge_count}
 use Rattle.caps.proofs.Rows.{below_none, below_more, below_length, below_mono}

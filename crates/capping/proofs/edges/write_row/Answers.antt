@@ -1,7 +1,7 @@
-use Rattle.std.proofs.Common.{◌≡◌, ℕ, ◌+◌, ◌<◌, ◌≤◌, List, [], ◌∷◌, ◌++◌, length, take, drop, set, sym, refl, ap, ◌∙◌, subst, subst₂, append_assoc, arith, rules}
+use Rattle.std.proofs.Common.{◌≡◌, ℕ, ◌+◌, ◌<◌, List, [], ◌∷◌, ◌++◌, length, take, drop, set, sym, refl, ap, ◌∙◌, subst₂, append_assoc, arith, rules}
 use Rattle.std.proofs.lemmas.List.{length_push, append-nil, take_more_set, drop-set-lt}
 use Rattle.graph.specs.declared.edge.Edge.{Edge}
-use Rattle.graph.specs.Edges.{edge, edges_at}
+use Rattle.graph.specs.Edges.{edge}
 use Rattle.supports.proofs.Queues.{drop_later}
 use Rattle.caps.proofs.Rows.{met_edges, met_none, met_yes, met_no, met_all, met_room}
 use Rattle.capping.proofs.edges.write_row.Goals as goal

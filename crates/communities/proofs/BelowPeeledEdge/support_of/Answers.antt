@@ -1,6 +1,6 @@
-use Rattle.std.proofs.Common.{◌≡◌, ℕ, ◌<◌, ◌≤◌, length, sym, refl, ap, ◌∙◌, arith, rules}
+use Rattle.std.proofs.Common.{length, arith}
 use Rattle.supports.specs.Peel.{alive}
-use Rattle.cohesion.specs.Common.{edge_at, linked, common, shared}
+use Rattle.cohesion.specs.Common.{edge_at, linked}
 use Rattle.cohesion.proofs.Places.{smaller, below}
 use Rattle.cohesion.proofs.Links.{common_le}
 use Rattle.cohesion.proofs.Rounds.{counted_common, rounds_same}

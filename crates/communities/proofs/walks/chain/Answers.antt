@@ -1,8 +1,8 @@
-use Rattle.std.proofs.Common.{◌≡◌, ℕ, ◌+◌, ◌<◌, ◌≤◌, cond, ltb, length, get_or, set, sym, refl, ap, ◌∙◌, subst, arith, rules}
+use Rattle.std.proofs.Common.{ltb, get_or, refl, ◌∙◌, arith}
 use Rattle.std.proofs.lemmas.List.{length-set}
 use Rattle.std.proofs.lemmas.Bool.{cond-true, lt-ltb}
 use Rattle.cohesion.proofs.Places.{smaller, below}
-use Rattle.cohesion.proofs.Raises.{Chaining, chaining_none, chaining_more, chaining_all}
+use Rattle.cohesion.proofs.Raises.{chaining_none, chaining_more, chaining_all}
 use Rattle.communities.proofs.walks.chain.Goals as goal
 
 pub loop-j-init : goal.loop-j-init

@@ -1,12 +1,11 @@
-use Rattle.std.proofs.Common.{◌≡◌, ℕ, ◌+◌, ◌-◌, ◌<◌, ◌≤◌, Bool, true, false, List, length, get_or, take, sym, refl, ap, ◌∙◌, subst, subst₂, arith, rules}
-use Rattle.finite.specs.Finite.{count, has}
+use Rattle.std.proofs.Common.{◌≡◌, ℕ, ◌-◌, ◌<◌, true, List, length, get_or, take, sym, ◌∙◌, subst, subst₂, arith, rules}
+use Rattle.finite.specs.Finite.{has}
 use Rattle.std.proofs.lemmas.Bool.{eqb-true, eqb-false}
 use Rattle.finite.proofs.Counts.{count_le}
 use Rattle.supports.specs.Peel.{alive}
 use Rattle.supports.proofs.Peels.{alive_below, alive_yes, alive_byte}
 use Rattle.supports.proofs.Queues.{Queue, queue_none, queue_skip, queue_push, queue_room}
-use Rattle.cohesion.specs.Common.{last_at}
-use Rattle.cohesion.proofs.Chains.{Walk, walk_start, walk_next}
+use Rattle.cohesion.proofs.Chains.{walk_start, walk_next}
 use Rattle.cohesion.proofs.Raises.{picked, picked_none, picked_yes, picked_no, picked_new, stand_within, stand_far, stand_next, stand_less}
 use Rattle.communities.proofs.walks.gather.Goals as goal
 use Rattle.communities.proofs.walks.gather.Goals.{then-lives+then-marks-w, else-lives, else-lives-via-then-lives+else-marks-w, else-lives-via-else-lives}

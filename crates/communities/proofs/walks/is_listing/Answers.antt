@@ -1,6 +1,6 @@
-use Rattle.std.proofs.Common.{◌≡◌, ℕ, ◌+◌, ◌<◌, ◌≤◌, true, false, ◌⊎◌, length, get_or, None, sym, refl, ap, ◌∙◌, subst, inl, inr, arith, rules}
+use Rattle.std.proofs.Common.{true, false, None, sym, refl, ap, ◌∙◌, subst, inl, inr, arith}
 use Rattle.std.proofs.lemmas.Bool.{both_ways, cases_eq}
-use Rattle.cohesion.proofs.Places.{prev, RightAt, prev_none, prev_more, rising_at, rising_from}
+use Rattle.cohesion.proofs.Places.{RightAt, prev_none, prev_more, rising_at, rising_from}
 use Rattle.graph.specs.Edges.{above}
 use Rattle.cohesion.specs.Common.{edge_at}
 use Rattle.communities.proofs.walks.is_listing.Goals as goal

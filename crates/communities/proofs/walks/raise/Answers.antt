@@ -1,10 +1,10 @@
-use Rattle.std.proofs.Common.{◌≡◌, ℕ, ◌+◌, ◌-◌, ◌<◌, ◌≤◌, List, length, sym, refl, ap, ◌∙◌, subst, subst₂, arith, rules}
+use Rattle.std.proofs.Common.{◌≡◌, ℕ, ◌+◌, ◌-◌, ◌<◌, List, length, sym, ap, ◌∙◌, subst₂, arith, rules}
 use Rattle.std.proofs.lemmas.Bool.{eqb-true, eqb-false}
 use Rattle.finite.proofs.Counts.{count_le}
 use Rattle.supports.specs.Peel.{alive}
 use Rattle.supports.proofs.Peels.{alive_yes, alive_no}
-use Rattle.cohesion.specs.Common.{last_at, linked}
-use Rattle.cohesion.proofs.Chains.{Walk, met, walk_start, walk_next, met_none, met_yes, met_no, met_all}
+use Rattle.cohesion.specs.Common.{linked}
+use Rattle.cohesion.proofs.Chains.{met, walk_start, walk_next, met_none, met_yes, met_no, met_all}
 use Rattle.cohesion.proofs.Raises.{Raised, fresh, raised_none, raised_same, raised_no, raised_yes, raised_all, stand_within, stand_smaller, stand_far, stand_next, stand_less}
 use Rattle.communities.proofs.walks.raise.Goals as goal
 use Rattle.communities.proofs.walks.raise.Goals.{then-lives+then-marks-w, else-lives, else-lives-via-then-lives+else-marks-w, else-lives-via-else-lives}

@@ -1,5 +1,5 @@
-use Rattle.std.proofs.Common.{◌≡◌, ℕ, ◌<◌, ◌≤◌, Bool, true, List, [], length, sym, refl, ap, ◌∙◌, arith, rules}
-use Rattle.finite.specs.Finite.{count, has}
+use Rattle.std.proofs.Common.{[], length, arith, rules}
+use Rattle.finite.specs.Finite.{has}
 use Rattle.finite.proofs.Counts.{count_empty, has_none}
 use Rattle.supports.specs.Peel.{alive}
 use Rattle.supports.proofs.Peels.{alive_below}

@@ -1,4 +1,4 @@
-use Rattle.std.proofs.Common.{vec_items, ◌∙◌, rules}
+use Rattle.std.proofs.Common.{rules}
 use Rattle.jobs.specs.Sharing.{past_degree, degree_all}
 use Rattle.jobs.proofs.JobFormListed.degree.Goals as goal
 

@@ -1,7 +1,7 @@
-use Rattle.std.proofs.Common.{◌≡◌, ◌+◌, ◌≤◌, sym, ap, ◌∙◌, arith}
+use Rattle.std.proofs.Common.{◌≡◌, ◌≤◌, sym, ap, ◌∙◌, arith}
 use Rattle.graph.specs.Graph.{degree}
 use Rattle.graph.specs.Hiding.{marked, without}
-use Rattle.graph.proofs.Hiding.{left, left_none, left_le, left_hidden, left_shown, left_degree, left_rank, unheld_degree}
+use Rattle.graph.proofs.Hiding.{left, left_none, left_hidden, left_shown, left_degree, left_rank, unheld_degree}
 use Rattle.graph.proofs.Graphs.{ranked_listed, degree_past}
 use Rattle.layers.proofs.HideLayerListed.neighbour.Goals as goal
 use Rattle.layers.proofs.HideLayerListed.neighbour.Goals.{in-Some+then-not-hides+else-before-i, in-Some+else-not-hides, in_default}

@@ -1,6 +1,6 @@
-use Rattle.std.proofs.Common.{◌≡◌, ℕ, ◌+◌, ◌<◌, ◌≤◌, true, false, List, [], length, get_or, take, set, sym, refl, ap, ◌∙◌, subst, subst₂, arith}
+use Rattle.std.proofs.Common.{◌≡◌, ℕ, ◌+◌, ◌<◌, false, List, [], get_or, take, sym, subst₂, arith}
 use Rattle.std.proofs.lemmas.Bool.Decides.{nat_tests}
-use Rattle.finite.specs.Finite.{count, has}
+use Rattle.finite.specs.Finite.{has}
 use Rattle.finite.proofs.Counts.{count_empty, has_none}
 use Rattle.supports.proofs.Queues.{Queue, lesser, queue_none, queue_skip, queue_push, queue_room, lesser_none, lesser_yes, lesser_no, lesser_out}
 use Rattle.peeling.proofs.tables.first_weak.Goals as goal

@@ -1,4 +1,4 @@
-use Rattle.std.proofs.Common.{◌≡◌, ℕ, ◌+◌, ◌<◌, ◌≤◌, false, List, get_or, Some, None, Option, sym, refl, ap, ◌∙◌, subst, arith, MatchOption}
+use Rattle.std.proofs.Common.{◌≡◌, ℕ, ◌+◌, false, List, get_or, Some, None, Option, sym, subst, arith, MatchOption}
 use Rattle.supports.specs.Peel.{alive}
 use Rattle.supports.proofs.Descents.{LowestCount}
 use Rattle.supports.proofs.Tables.{none_zero, none_more, lowest_first, lowest_skip, lowest_min}

@@ -1,7 +1,7 @@
-use Rattle.std.proofs.Common.{◌≡◌, ℕ, ◌+◌, ◌<◌, ◌≤◌, true, false, List, [], length, get_or, take, set, sym, refl, ap, ◌∙◌, subst, subst₂, arith}
+use Rattle.std.proofs.Common.{◌≡◌, ℕ, ◌+◌, ◌<◌, ◌≤◌, true, List, length, get_or, take, sym, ap, ◌∙◌, subst₂, arith}
 use Rattle.std.proofs.lemmas.Bool.{eq-eqb}
 use Rattle.std.proofs.lemmas.List.{get_or-take, length-take-le}
-use Rattle.finite.specs.Finite.{count, has}
+use Rattle.finite.specs.Finite.{has}
 use Rattle.finite.proofs.Counts.{count_le, has_at}
 use Rattle.supports.proofs.Queues.{Queue, fallen, queue_none, queue_skip, queue_push, queue_room, fallen_none, fallen_yes, fallen_no, fallen_fresh}
 use Rattle.peeling.proofs.tables.push_fallen.Goals as goal

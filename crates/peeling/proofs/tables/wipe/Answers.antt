@@ -1,6 +1,5 @@
-use Rattle.std.proofs.Common.{◌<◌, length, refl, arith}
+use Rattle.std.proofs.Common.{arith}
 use Rattle.supports.proofs.Tables.{filled_more}
-use Rattle.items.specs.Marks.{Wiped}
 use Rattle.peeling.proofs.tables.wipe.Goals as goal
 
 pub loop-k-preserved : goal.loop-k-preserved

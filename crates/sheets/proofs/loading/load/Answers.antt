@@ -20,8 +20,8 @@ pub returns-in_err-read : goal.returns-in_err-read
 returns-in_err-read c =
     let a = c.as_mut_slice.ensures.len in
     let b = c.as_mut_slice-2.ensures.len in
-    let m = c.in-Ok.ensures.made.1 in
-    let n = c.in-Ok-vec.ensures.made.1 in
+    let m = c.in-Ok.ensures.len in
+    let n = c.in-Ok-vec.ensures.len in
     let p = err_from_is_err_and c.from_residual-in_err-read.result c.from_residual-in_err-read.ensures.1 in
     rw (p.1, p.2) (load_unread c.args.sheet.now c.in_ok-size.size.n c.in_ok-size.size.clashes _ _ c.in_err-read.field-0.0 c.in_ok-size.ensures (omega arith) (omega arith) c.in_err-read.ensures.0)
 
@@ -30,8 +30,8 @@ whole : (c : After-filled) → Loaded c.args.sheet.now c.as_slice.result.now c.a
 whole c =
     let a = c.as_mut_slice.ensures.len in
     let b = c.as_mut_slice-2.ensures.len in
-    let m = c.in-Ok.ensures.made.1 in
-    let n = c.in-Ok-vec.ensures.made.1 in
+    let m = c.in-Ok.ensures.len in
+    let n = c.in-Ok-vec.ensures.len in
     let k = c.read.auto.offsets in
     let l = c.read.auto.neighbours in
     let x : length c.read.new.offsets ≡ c.in_ok-size.size.n + 1 = omega arith in

@@ -26,13 +26,13 @@ returns-in_default c =
 pub returns-in_err-read_edges : goal.returns-in_err-read_edges
 returns-in_err-read_edges c =
     let b = c.as_mut_slice.ensures.len in
-    let m = c.in-Ok.ensures.made.1 in
+    let m = c.in-Ok.ensures.len in
     absurd (edges_fit c.args.sheet.now c.in_ok-size.size.n c.in_ok-size.size.clashes _ c.in_err-read_edges.field-0.0 c.in_ok-size.ensures (omega arith) c.in_err-read_edges.ensures.0)
 
 pub returns-in-Ok-lay_out : goal.returns-in-Ok-lay_out
 returns-in-Ok-lay_out c =
     let b = c.as_mut_slice.ensures.len in
-    let m = c.in-Ok.ensures.made.1 in
+    let m = c.in-Ok.ensures.len in
     let k = c.read_edges.auto.edges in
     let z : length c.read_edges.new.edges ≡ c.in_ok-size.size.clashes = omega arith in
     let e = edges_are c.args.sheet.now c.in_ok-size.size.n c.in_ok-size.size.clashes _ _ _ c.read_edges.new.edges c.in_ok-size.ensures c.in_ok-read_edges.ensures z in
@@ -42,7 +42,7 @@ returns-in-Ok-lay_out c =
 pub returns : goal.returns
 returns c =
     let b = c.as_mut_slice.ensures.len in
-    let m = c.in-Ok.ensures.made.1 in
+    let m = c.in-Ok.ensures.len in
     let k = c.read_edges.auto.edges in
     let z : length c.read_edges.new.edges ≡ c.in_ok-size.size.clashes = omega arith in
     let e = edges_are c.args.sheet.now c.in_ok-size.size.n c.in_ok-size.size.clashes _ _ _ c.read_edges.new.edges c.in_ok-size.ensures c.in_ok-read_edges.ensures z in

@@ -1,4 +1,4 @@
-use Rattle.std.proofs.Common.{ℕ, ◌+◌, ◌-◌, ◌/◌, ◌<◌, ◌≤◌, sym, arith}
+use Rattle.std.proofs.Common.{◌+◌, ◌-◌, ◌/◌, sym, arith}
 use Rattle.rows.proofs.Lawful.{halved_none, halved_low, halved_high, halved_all, halved_found}
 use Rattle.sources.proofs.list_form.find.Goals as goal
 

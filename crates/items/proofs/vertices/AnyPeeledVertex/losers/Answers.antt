@@ -1,6 +1,5 @@
-use Rattle.std.proofs.Common.{◌≡◌, ℕ, ◌+◌, ◌<◌, ◌≤◌, false, List, [], length, take, sym, refl, ap, ◌∙◌, subst, subst₂, arith, rules}
-use Rattle.std.proofs.lemmas.Bool.Decides.{nat_tests}
-use Rattle.finite.specs.Finite.{count, has}
+use Rattle.std.proofs.Common.{ℕ, ◌+◌, List, [], sym, refl, subst₂, arith}
+use Rattle.finite.specs.Finite.{has}
 use Rattle.finite.proofs.Counts.{count_empty, has_none}
 use Rattle.supports.specs.Peel.{alive}
 use Rattle.supports.proofs.Peels.{alive_yes, alive_no}

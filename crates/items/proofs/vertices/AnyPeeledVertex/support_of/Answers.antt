@@ -1,5 +1,4 @@
-use Rattle.std.proofs.Common.{◌≡◌, ℕ, ◌+◌, ◌<◌, ◌≤◌, ◌⊎◌, sym, refl, ap, ◌∙◌, subst, inl, inr, arith, rules}
-use Rattle.finite.specs.Finite.{count}
+use Rattle.std.proofs.Common.{ℕ, ◌+◌, ◌<◌, sym, refl, ap, ◌∙◌, arith, rules}
 use Rattle.finite.proofs.Counts.{count_le}
 use Rattle.supports.specs.Peel.{alive}
 use Rattle.supports.proofs.Peels.{alive_yes, alive_no}

@@ -1,4 +1,4 @@
-use Rattle.std.proofs.Common.{◌≡◌, ℕ, ◌+◌, ◌<◌, Bool, sym, ◌∙◌, subst, arith}
+use Rattle.std.proofs.Common.{ℕ, ◌+◌, ◌<◌, Bool, sym, ◌∙◌, subst, arith}
 use Rattle.kernels.specs.Kernels.{paired}
 use Rattle.placings.proofs.Rows.{Row, row_none, row_yes, row_no}
 use Rattle.kernels.proofs.shape.edits.fill_row.Goals as goal

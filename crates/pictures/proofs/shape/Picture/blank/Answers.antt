@@ -5,7 +5,7 @@ use Rattle.pictures.proofs.shape.Picture.blank.Goals as goal
 
 pub invariant_of-result : goal.invariant_of-result
 invariant_of-result c =
-    (c.requires, ((λ i j. none_linked i j ∙ sym (none_linked j i)), ((λ i. none_linked i i), ((λ i j t. absurd (both_ways _ (none_linked i j) t)), tt))))
+    record { small = c.requires; even = λ i j. none_linked i j ∙ sym (none_linked j i); loopless = λ i. none_linked i i; held = λ i j t. absurd (both_ways _ (none_linked i j) t) }
 
 pub returns : goal.returns
 returns c = record { size = refl; none = none_linked }

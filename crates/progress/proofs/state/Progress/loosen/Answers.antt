@@ -8,7 +8,7 @@ invariant_of-self g c =
     let G = g.S.Source.graph c.args.source.now in
     let l = vertices_le G in
     let s = (g.met.S.Source.lawful c.args.source.now).small in
-    (omega (arith, c.vertex_count-held.ensures), (omega arith, (omega arith, (c.args.self.now.out, tt))))
+    record { few = omega (arith, c.vertex_count-held.ensures); climbs = omega arith; small = omega arith; out = c.args.self.now.out }
 
 pub returns : goal.returns
 returns g c =

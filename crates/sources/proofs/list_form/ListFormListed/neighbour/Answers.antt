@@ -1,4 +1,4 @@
-use Rattle.std.proofs.Common.{vec_items, sym, arith}
+use Rattle.std.proofs.Common.{vec_items, arith}
 use Rattle.std.proofs.lemmas.List.{get_or_read_under}
 use Rattle.rows.specs.Rows.{listed}
 use Rattle.graph.proofs.Graphs.{ranked_listed, degree_past}

@@ -1,4 +1,4 @@
-use Rattle.std.proofs.Common.{◌≡◌, ◌+◌, ◌<◌, ap, arith}
+use Rattle.std.proofs.Common.{◌+◌, ◌<◌, ap, arith}
 use Rattle.stamps.specs.declared.table.Stamps.{Stamps}
 use Rattle.stamps.proofs.Ranks.{turned}
 use Rattle.stamps.proofs.table.Stamps.turn_to.Given as given

@@ -1,7 +1,5 @@
-use Rattle.std.proofs.Common.{◌≡◌, ℕ, ◌+◌, ◌-◌, List, ◌++◌, length, take, drop, sym, refl, ap, ◌∙◌, arith, rules}
+use Rattle.std.proofs.Common.{◌≡◌, ℕ, ◌+◌, ◌-◌, List, ◌++◌, length, take, drop, refl, ap, ◌∙◌, arith}
 use Rattle.std.proofs.lemmas.Result.{err_from_is_err_and}
-use Rattle.graph.specs.declared.edge.Edge.{Edge}
-use Rattle.tally.specs.Laid.{Laid}
 use Rattle.tally.proofs.Finishes.{Ended, finishes, breaks}
 use Rattle.tally.proofs.laying.Laying.finish.Goals as goal
 

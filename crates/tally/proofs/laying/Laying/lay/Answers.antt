@@ -1,6 +1,6 @@
-use Rattle.std.proofs.Common.{◌≡◌, ◌<◌, ◌⊎◌, length, sym, refl, ap, ◌∙◌, inl, inr, arith, rules}
+use Rattle.std.proofs.Common.{◌<◌, length, sym, refl, ap, ◌∙◌, inl, inr, arith}
 use Rattle.graph.specs.Edges.{above, edge}
-use Rattle.tally.proofs.Lays.{Placed, fault_room, fault_outside, fault_order, fault_full, fault_none, laid_on, places_on}
+use Rattle.tally.proofs.Lays.{fault_room, fault_outside, fault_order, fault_full, fault_none, laid_on, places_on}
 use Rattle.tally.proofs.laying.Laying.lay.Goals as goal
 use Rattle.tally.proofs.laying.Laying.lay.Goals.{then-a-self-via-then-a-self, then-a-self-via-else-a-self+then-b-self, then-a-b-via-then-a-b, then-a-b-via-else-a-b+then-not-is_above, then-self-a-eq0-via-then-self-a-eq0, then-self-a-eq0-via-else-self-a-eq0+then-self-b-eq0}
 

@@ -1,5 +1,4 @@
-use Rattle.std.proofs.Common.{◌≡◌, ℕ, ◌+◌, ◌<◌, ◌≤◌, ◌⊎◌, length, get_or, set, sum, sym, refl, ap, ◌∙◌, inl, inr, arith, rules}
-use Rattle.std.proofs.lemmas.List.{length-set}
+use Rattle.std.proofs.Common.{sym, refl, ap, ◌∙◌, inl, inr, arith}
 use Rattle.graph.specs.Edges.{above, edge}
 use Rattle.tally.proofs.Counts.{sum_grown, row_still, twice_is, row_small, counted_more, counting_outside, counting_order, counting_many, counting_none}
 use Rattle.tally.proofs.state.Tally.count.Goals as goal

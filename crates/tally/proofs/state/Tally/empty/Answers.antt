@@ -1,4 +1,4 @@
-use Rattle.std.proofs.Common.{refl, rules}
+use Rattle.std.proofs.Common.{refl}
 use Rattle.tally.proofs.Counts.{counted_none}
 use Rattle.tally.proofs.state.Tally.empty.Goals as goal
 

@@ -1,4 +1,4 @@
-use Rattle.std.proofs.Common.{refl, arith, rules}
+use Rattle.std.proofs.Common.{refl, arith}
 use Rattle.tally.proofs.Counts.{counted_none}
 use Rattle.tally.proofs.state.Tally.open.Goals as goal
 

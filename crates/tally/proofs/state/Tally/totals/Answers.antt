@@ -1,4 +1,4 @@
-use Rattle.std.proofs.Common.{◌≡◌, ℕ, refl, subst, arith, rules}
+use Rattle.std.proofs.Common.{◌≡◌, ℕ, refl, subst, arith}
 use Rattle.tally.proofs.Starts.{LayingOut, out_none, out_more, out_fits, out_within, begun}
 use Rattle.tally.proofs.state.Tally.totals.Goals as goal
 

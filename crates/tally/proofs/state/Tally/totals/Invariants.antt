@@ -1,4 +1,3 @@
-use Rattle.std.proofs.Common.{◌≡◌, ℕ, ◌<◌, ◌≤◌, length, get_or, take}
 use Rattle.tally.proofs.Starts.{LayingOut}
 use Rattle.tally.proofs.state.Tally.totals.Given as goal
 
