@@ -1,5 +1,5 @@
 -- What each call has to answer at a point.
-use Rattle.std.specs.Prelude.{◌≡◌, ℕ, ◌+◌, ◌-◌, ◌<◌, ◌≤◌, Bool, true, false, cond, ◌⊎◌, List, [], ◌∷◌, Ok, Err, MatchBool, Result, ◌==◌}
+use Rattle.std.specs.Prelude.{◌≡◌, ℕ, ◌+◌, ◌-◌, ◌<◌, ◌≤◌, Bool, cond, ◌⊎◌, List, [], ◌∷◌, Ok, Err, MatchBool, Result, ◌==◌}
 use Rattle.finite.specs.Finite.{count}
 use Rattle.graph.specs.declared.refusal.Refusal.{Refusal}
 use Rattle.graph.specs.declared.refusal.Refusal.TheVariants.{TooDense, TooWide}
@@ -14,7 +14,7 @@ use Rattle.calls.specs.declared.call.Reply.{Reply}
 use Rattle.calls.specs.declared.call.Reply.TheVariants.{Done, Refused, Remaining, Tried, Told}
 use Rattle.calls.specs.declared.call.Report.{Report}
 use Rattle.calls.specs.Table.{standing_number, loose, takes, operation, turned_away}
-use Rattle.calls.specs.Points.{Event, History, Point, graph_at, point_at, event}
+use Rattle.calls.specs.Points.{History, Point, graph_at, point_at, event}
 use Rattle.calls.specs.Parts.{BlockSize, Kernel, PlanAt}
 
 -- the numbers of a loose planner

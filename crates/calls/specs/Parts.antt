@@ -1,5 +1,5 @@
 -- The block, the kernel and the plan at a point.
-use Rattle.std.specs.Prelude.{◌≡◌, ℕ, ◌+◌, ◌<◌, ◌≤◌, Bool, true, false, List}
+use Rattle.std.specs.Prelude.{◌≡◌, ℕ, ◌<◌, ◌≤◌, Bool, true, false, List}
 use Rattle.graph.specs.Graph.{Graph, held}
 use Rattle.graph.specs.Colourings.{Proper, ColouredIn}
 use Rattle.graph.specs.Degeneracy.{CoreOf}

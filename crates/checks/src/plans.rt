@@ -74,7 +74,7 @@ fn densest(rt: HostRuntime) -> Result<(), Fail> {
     let taken = all_clashing(heap, 64)?;
     let text = respond(heap, taken.as_slice())?;
     assert!(rt; text.len() > 14);
-    assert_eq!(rt; &text.as_slice()[0..14], b"n\t64\t63\t64\t64\n");
+    assert_eq!(rt; &text.as_slice()[0..14], b"n\t64\t63\t64\t64\n".as_slice());
     let refused = all_clashing(heap, 65)?;
     prints(&rt, heap, refused.as_slice(), b"x\t4\n")
 }

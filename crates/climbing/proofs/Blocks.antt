@@ -1,5 +1,5 @@
 -- The step of a climb over plain values: the later neighbours, the block that is written, and what it stands for.
-use Rattle.std.proofs.Common.{◌≡◌, ℕ, zero, suc, ◌+◌, ◌-◌, ◌<◌, ◌≤◌, Bool, true, false, cond, ◌&&◌, ◌||◌, eqb, ltb, ◌⊎◌, List, [], ◌∷◌, ◌++◌, length, get_or, take, drop, set, Some, None, sym, refl, ap, ◌∙◌, subst, inl, inr, add-one, arith, drop-cons}
+use Rattle.std.proofs.Common.{◌≡◌, ℕ, zero, suc, ◌+◌, ◌-◌, ◌<◌, ◌≤◌, Bool, true, false, cond, ◌&&◌, eqb, ◌⊎◌, List, [], ◌∷◌, ◌++◌, length, get_or, take, drop, set, Some, None, sym, refl, ap, ◌∙◌, subst, inl, inr, add-one, arith, drop-cons}
 use lib.Seq.{drop-length}
 use Rattle.std.proofs.lemmas.List.{append-nil, length_push, length-take-le, take_more_set}
 use Rattle.std.proofs.lemmas.Bool.{cases_eq, and_parts, both_ways, ne_eqb, or_right, or_from, and_left, and_right}

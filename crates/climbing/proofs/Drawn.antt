@@ -1,7 +1,7 @@
 -- Cliques of a picture as cliques of the graph that it shows, and back.
-use Rattle.std.proofs.Common.{◌≡◌, ℕ, ◌+◌, ◌<◌, ◌≤◌, Bool, true, false, ◌&&◌, eqb, ltb, ◌⊎◌, List, [], ◌∷◌, length, get_or, sym, refl, ap, ◌∙◌, subst, inl, inr, ⊎_elim, arith}
+use Rattle.std.proofs.Common.{◌≡◌, ℕ, ◌<◌, ◌≤◌, Bool, true, ◌&&◌, eqb, ltb, List, length, get_or, sym, refl, ap, ◌∙◌, inl, inr, arith}
 use Rattle.std.proofs.lemmas.Bool.{cases_eq, eqb-true, eq-eqb, ltb-true, lt-ltb, and_parts, and_from}
-use Rattle.finite.specs.Finite.{any, count, has}
+use Rattle.finite.specs.Finite.{count, has}
 use Rattle.finite.specs.Masks.{bit}
 use Rattle.finite.specs.Supports.{Within}
 use Rattle.finite.proofs.Counts.{any_true, has_true, has_at, count_le}

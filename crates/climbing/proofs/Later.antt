@@ -1,12 +1,11 @@
 -- The later neighbours of the vertices of a list.
-use Rattle.std.proofs.Common.{◌≡◌, ℕ, zero, suc, ◌+◌, ◌-◌, ◌<◌, ◌≤◌, Bool, true, false, cond, ◌&&◌, ◌||◌, eqb, ◌⊎◌, List, [], ◌∷◌, ◌++◌, length, get_or, take, drop, sym, refl, ap, ◌∙◌, subst, inl, inr, ⊎_elim, arith, length-append, length-drop, drop-cons}
-use lib.Seq.{drop-nil}
+use Rattle.std.proofs.Common.{◌≡◌, ℕ, zero, suc, ◌+◌, ◌-◌, ◌<◌, ◌≤◌, Bool, true, false, cond, ◌&&◌, ◌||◌, eqb, ◌⊎◌, List, [], ◌∷◌, ◌++◌, length, get_or, take, drop, sym, refl, ap, ◌∙◌, subst, inl, inr, arith, length-drop, drop-cons}
 use Rattle.std.proofs.lemmas.List.{append-nil, length_push, get_or-drop, drop-drop, get_or-take, length-take-le}
 use Rattle.std.proofs.lemmas.Bool.{cases_Bool, cases_eq, cases_lt, cases_order, both_ways, false≢true, eqb-true, and_parts, and_from}
 use Rattle.finite.specs.Finite.{count, has}
 use Rattle.finite.proofs.Counts.{has_push, has_true, has_at, push_before, push_here}
 use Rattle.finite.proofs.Pigeons.{count_inject}
-use Rattle.graph.specs.Graph.{Graph, held, clash, inside}
+use Rattle.graph.specs.Graph.{Graph, clash, inside}
 use Rattle.graph.proofs.Graphs.{held_below}
 use Rattle.degeneracy.specs.Order.{IsOrder, survivors, met}
 use Rattle.degeneracy.proofs.Orders.{survivors_held}

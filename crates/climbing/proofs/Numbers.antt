@@ -1,9 +1,9 @@
 -- The clique number of a graph, by the later neighbours of its vertices.
-use Rattle.std.proofs.Common.{◌≡◌, ℕ, zero, suc, ◌+◌, ◌-◌, ◌<◌, ◌≤◌, Bool, true, false, ◌&&◌, ◌||◌, eqb, ◌⊎◌, List, [], ◌∷◌, length, get_or, take, drop, sym, refl, ap, ◌∙◌, subst, inl, inr, ⊎_elim, arith}
-use Rattle.std.proofs.lemmas.Bool.{cases_Bool, cases_eq, cases_lt, both_ways, false≢true, ne_eqb, eq-eqb, or_left, or_right, and_parts, and_from}
+use Rattle.std.proofs.Common.{◌≡◌, ℕ, zero, suc, ◌+◌, ◌-◌, ◌<◌, ◌≤◌, Bool, true, false, ◌&&◌, ◌||◌, eqb, ◌⊎◌, List, length, get_or, drop, sym, refl, ap, ◌∙◌, subst, inl, inr, arith}
+use Rattle.std.proofs.lemmas.Bool.{cases_Bool, cases_eq, cases_lt, both_ways, false≢true, ne_eqb, eq-eqb, or_left, and_parts, and_from}
 use Rattle.finite.specs.Finite.{count, has}
 use Rattle.finite.specs.Supports.{Within}
-use Rattle.finite.proofs.Counts.{count_empty, has_true, has_at, first_at, has_none, minus, minus_self, minus_other}
+use Rattle.finite.proofs.Counts.{count_empty, has_true, first_at, minus, minus_other}
 use Rattle.grids.specs.Largest.{most}
 use Rattle.grids.proofs.Largest.{most_ge, most_at, most_none}
 use Rattle.graph.specs.Graph.{Graph, Lawful, held, clash}

@@ -177,8 +177,19 @@ impl Hints {
         (place, most)
     }
 
+    // The first of the places without a colour that have the most colours around them, or 256.
+    pub fn most_taken(&self, used: usize) -> usize {
+        let tied = self.tied(used);
+        for w in 0..4 {
+            if tied[w] != 0 {
+                return 64 * w + lowest(tied[w]);
+            }
+        }
+        256
+    }
+
     // The place without a colour that has the most colours around it, of those the one with the highest score; or 256.
-    pub fn most_taken(&self, kernel: &Kernel, used: usize, k: usize) -> usize {
+    pub fn keenest_taken(&self, kernel: &Kernel, used: usize, k: usize) -> usize {
         let tied = self.tied(used);
         let mut place = 256;
         let mut most = 0;

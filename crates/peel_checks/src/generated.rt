@@ -65,11 +65,15 @@ fn agree(rt: &impl Abort, form: &JobForm) -> Result<(), Fail> {
         let mut drives = [0usize; 16];
         let mut table = [99u16; 12];
         let yes = colour(&kernel, &mut table, k)?;
-        assert_eq!(rt; yes, extends(form, &mut drives[0..n], 0, k));
+        assert_eq!(rt;
+            yes,
+            extends(form, &mut drives[0..n], 0, k),
+            "a generated stock"
+        );
         if yes {
             proper(rt, form, &table, k);
         } else {
-            assert_eq!(rt; table, [99; 12]);
+            assert_eq!(rt; table, [99; 12], "a generated stock");
         }
     }
     Ok(())
@@ -78,7 +82,7 @@ fn agree(rt: &impl Abort, form: &JobForm) -> Result<(), Fail> {
 #[test]
 fn two_hundred(rt: HostRuntime) -> Result<(), Fail> {
     for i in 0..200 {
-        agree(&rt, &generated(&rt, rt.alloc(), i)?).note("a generated stock")?;
+        agree(&rt, &generated(&rt, rt.alloc(), i)?)?;
     }
     Ok(())
 }

@@ -1,5 +1,5 @@
 -- What block, plan and cap leave in lent buffers.
-use Rattle.std.proofs.Common.{◌≡◌, ℕ, ◌+◌, ◌<◌, ◌≤◌, Bool, true, false, List, length, take, drop, Ok, Err, MatchBool, Result, sym, refl, ap, ◌∙◌, subst, MatchResult}
+use Rattle.std.proofs.Common.{◌≡◌, ℕ, ◌<◌, ◌≤◌, true, false, List, length, take, drop, Ok, Err, MatchBool, Result, sym, refl, ap, ◌∙◌, subst, MatchResult}
 use Rattle.std.proofs.lemmas.Bool.{false≢true}
 use Rattle.graph.specs.declared.Source.{Ghosts}
 use Rattle.graph.specs.declared.refusal.Refusal.{Refusal}

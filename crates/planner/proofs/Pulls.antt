@@ -1,5 +1,5 @@
 -- What pull, try, put back and report leave of a planner that a history explains.
-use Rattle.std.proofs.Common.{◌≡◌, ℕ, ◌+◌, Bool, true, false, cond, List, ◌∷◌, Ok, Err, Result, sym, refl, ap, ◌∙◌, subst, MatchResult}
+use Rattle.std.proofs.Common.{◌≡◌, ℕ, ◌+◌, Bool, true, cond, ◌∷◌, Ok, Err, Result, sym, refl, ap, ◌∙◌, subst, MatchResult}
 use Rattle.std.proofs.lemmas.Bool.{false≢true}
 use Rattle.graph.specs.declared.Source.{Ghosts}
 use Rattle.graph.specs.declared.refusal.Refusal.{Refusal}
@@ -10,8 +10,7 @@ use Rattle.calls.specs.declared.standing.Standing.{Standing}
 use Rattle.calls.specs.declared.standing.Standing.TheVariants.{Loose, Ordered, Climbed, Pulled, Won, Closed}
 use Rattle.calls.specs.declared.standing.Operation.TheVariants as operation
 use Rattle.calls.specs.declared.call.Call.TheVariants.{Pull, Try, PutBack, Report as Reporting}
-use Rattle.calls.specs.declared.call.Reply.{Reply}
-use Rattle.calls.specs.declared.call.Reply.TheVariants.{Done, Refused, Tried, Told}
+use Rattle.calls.specs.declared.call.Reply.TheVariants.{Done, Tried, Told}
 use Rattle.calls.specs.declared.call.Report.{Report}
 use Rattle.calls.specs.Table.{takes, put_back_to}
 use Rattle.calls.specs.Points.{History, Point, event, graph_at, point_at}
@@ -22,7 +21,7 @@ use Rattle.progress.specs.Holds.{Holds, ToldRight}
 use Rattle.runs.proofs.Reports.{reports_right}
 use Rattle.planner.specs.declared.planner.Planner.{Planner}
 use Rattle.planner.specs.Explains.{Explains}
-use Rattle.planner.proofs.Steps.{layer_graph, fair_taken, stays}
+use Rattle.planner.proofs.Steps.{layer_graph, fair_taken}
 
 takes_pull : (s : Standing) → takes s operation.Pull ≡ true → s ≡ Climbed
 takes_pull Loose e = absurd (false≢true e)

@@ -1,23 +1,22 @@
 -- What each call leaves of a planner that a history explains.
-use Rattle.std.proofs.Common.{◌≡◌, ℕ, ◌+◌, ◌-◌, Bool, true, false, not, ◌&&◌, ◌||◌, eqb, List, ◌∷◌, Ok, Err, MatchBool, Result, sym, refl, ap, ◌∙◌, subst, inl, inr, MatchResult}
+use Rattle.std.proofs.Common.{◌≡◌, ℕ, ◌+◌, ◌-◌, Bool, true, false, not, ◌&&◌, ◌||◌, eqb, ◌∷◌, Ok, Err, MatchBool, Result, sym, refl, ap, ◌∙◌, subst, inl, inr, MatchResult}
 use mathlib.Core.Path.{fun_ext}
 use Rattle.std.proofs.lemmas.Bool.{false≢true}
 use Rattle.graph.specs.declared.Source.{Ghosts}
 use Rattle.graph.specs.declared.refusal.Refusal.{Refusal}
 use Rattle.graph.specs.declared.refusal.Refusal.TheVariants.{TooDense}
-use Rattle.graph.specs.Graph.{Graph, Lawful, vertices}
+use Rattle.graph.specs.Graph.{Graph, vertices}
 use Rattle.graph.specs.Hiding.{without, marked, hide_answer, show_answer}
 use Rattle.order.specs.Order.{Dense}
 use Rattle.calls.specs.declared.standing.Standing.{Standing}
 use Rattle.calls.specs.declared.standing.Standing.TheVariants.{Loose, Ordered, Climbed, Pulled, Won, Closed}
-use Rattle.calls.specs.declared.standing.Operation.{Operation}
 use Rattle.calls.specs.declared.standing.Operation.TheVariants as operation
 use Rattle.calls.specs.declared.call.Call.{Call}
 use Rattle.calls.specs.declared.call.Call.TheVariants.{Hide, Show, Order, Climb}
 use Rattle.calls.specs.declared.call.Reply.{Reply}
-use Rattle.calls.specs.declared.call.Reply.TheVariants.{Done, Refused, Remaining}
+use Rattle.calls.specs.declared.call.Reply.TheVariants.{Done, Refused}
 use Rattle.calls.specs.Table.{takes, operation, turned_away}
-use Rattle.calls.specs.Points.{History, Point, event, graph_at, point_at, climbed_to, next}
+use Rattle.calls.specs.Points.{History, event, graph_at, point_at, climbed_to}
 use Rattle.calls.specs.Fair.{Answers, Fair, SparseEnough, reply_of}
 use Rattle.progress.specs.Holds.{Holds}
 use Rattle.planner.specs.declared.planner.Planner.{Planner}

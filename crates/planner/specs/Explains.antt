@@ -1,5 +1,5 @@
 -- A planner that stands where a history has brought it, and what a call does to it.
-use Rattle.std.specs.Prelude.{◌≡◌, ℕ, Bool, ◌∷◌, Ok, Err, Result}
+use Rattle.std.specs.Prelude.{◌≡◌, ℕ, ◌∷◌, Ok, Err, Result}
 use Rattle.graph.specs.declared.Source.{Ghosts}
 use Rattle.graph.specs.declared.refusal.Refusal.{Refusal}
 use Rattle.graph.specs.Graph.{Graph}
@@ -7,7 +7,7 @@ use Rattle.graph.specs.Hiding.{marked}
 use Rattle.calls.specs.declared.call.Call.{Call}
 use Rattle.calls.specs.declared.call.Reply.{Reply}
 use Rattle.calls.specs.declared.call.Reply.TheVariants.{Refused, Remaining}
-use Rattle.calls.specs.Points.{History, Point, event, graph_at, point_at}
+use Rattle.calls.specs.Points.{History, event, graph_at, point_at}
 use Rattle.calls.specs.Fair.{Fair, FairHistory}
 use Rattle.progress.specs.Holds.{Holds}
 use Rattle.planner.specs.declared.planner.Planner.{Planner}

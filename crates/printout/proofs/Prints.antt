@@ -1,8 +1,8 @@
 -- What is printed, piece by piece.
-use Rattle.std.proofs.Common.{◌≡◌, ℕ, ◌≤◌, Bool, true, false, cond, eqb, ltb, List, [], ◌∷◌, ◌++◌, length, sym, refl, ap, ◌∙◌}
+use Rattle.std.proofs.Common.{◌≡◌, ℕ, ◌≤◌, Bool, cond, List, [], ◌∷◌, ◌++◌, length, sym, ap, ◌∙◌}
 use Rattle.std.proofs.lemmas.Bool.{le-ltb, eq-eqb, ne_eqb}
 use Rattle.fields.specs.Rows.{numbers_line}
-use Rattle.grammar.specs.Sheet.{outcome, states}
+use Rattle.grammar.specs.Sheet.{outcome}
 use Rattle.grammar.proofs.Forth.{reads_states}
 use Rattle.sheets.specs.Loaded.{Rewritten}
 use Rattle.printout.specs.Printed.{refusal, told, printed}

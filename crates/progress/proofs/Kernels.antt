@@ -1,13 +1,13 @@
 -- What pulling, trying and putting back leave of what a planner has found.
-use Rattle.std.proofs.Common.{◌≡◌, ℕ, zero, suc, ◌+◌, ◌-◌, ◌<◌, ◌≤◌, max, Bool, true, false, cond, not, ◌&&◌, eqb, ltb, ◌⊎◌, List, [], ◌∷◌, length, get_or, take, replicate, Some, None, MatchBool, Option, sym, refl, ap, ◌∙◌, subst, inl, inr, arith}
+use Rattle.std.proofs.Common.{◌≡◌, ℕ, zero, suc, ◌+◌, ◌-◌, ◌<◌, ◌≤◌, max, Bool, true, false, cond, not, ◌&&◌, eqb, List, [], ◌∷◌, length, get_or, take, replicate, Some, None, Option, sym, refl, ap, ◌∙◌, subst, inl, inr, arith}
 use mathlib.Core.Path.{fun_ext}
 use Rattle.std.proofs.lemmas.List.{length-take-le}
-use Rattle.std.proofs.lemmas.Bool.{false≢true, eqb-true, eqb-false, eq-eqb, ne_eqb, cases_lt, cases_Bool, ltb-true, lt-ltb, le-ltb}
+use Rattle.std.proofs.lemmas.Bool.{false≢true, eqb-true, eqb-false, cases_lt, cases_Bool, lt-ltb, le-ltb}
 use Rattle.finite.specs.Finite.{count, members, has, nth}
-use Rattle.finite.proofs.Counts.{has_true, has_at}
+use Rattle.finite.proofs.Counts.{has_true}
 use Rattle.finite.proofs.Members.{length_members, members_some, members_at, count_rise}
-use Rattle.graph.specs.Graph.{Graph, Lawful, held, inside, clash, vertices}
-use Rattle.graph.specs.Colourings.{ColouredIn, Coloured, ColourableIn, Colourable, used}
+use Rattle.graph.specs.Graph.{Graph, Lawful, held}
+use Rattle.graph.specs.Colourings.{Coloured, ColourableIn, Colourable, used}
 use Rattle.graph.specs.Degeneracy.{CoreOf}
 use Rattle.graph.proofs.Graphs.{held_below}
 use Rattle.colourings.proofs.Used.{used_most, used_exactly}
@@ -15,21 +15,19 @@ use Rattle.degeneracy.specs.Order.{IsOrder, IsPeak, survivors}
 use Rattle.degeneracy.proofs.Orders.{survivors_held, order_one}
 use Rattle.degeneracy.proofs.Plans.{plan_few, plan_coloured}
 use Rattle.climbing.specs.Climbs.{BlockIn, last}
-use Rattle.supports.specs.Peel.{Peels, without, alive}
+use Rattle.supports.specs.Peel.{without, alive}
 use Rattle.placings.specs.Colours.{Colours, at}
-use Rattle.placings.specs.Tries.{Found as Filled-in, Impossible}
 use Rattle.kernels.specs.Kernels.{Draws, places, joined}
-use Rattle.kernels.specs.declared.shape.Kernel.{Kernel as Picture}
-use Rattle.peels.specs.Peels.{Taken, Peeled, CoreLeft, Lists, IsPutBack}
+use Rattle.peels.specs.Peels.{Taken, CoreLeft, Lists}
 use Rattle.peels.proofs.Kernels.{kernel_needed}
 use Rattle.peels.proofs.Pictures.{to_graph, from_graph}
 use Rattle.cores.specs.Cores.{CoreIn}
 use Rattle.putback.specs.Backs.{BackIn, BackRefused, Laid}
 use Rattle.graph.specs.declared.refusal.Refusal.{Refusal}
 use Rattle.calls.specs.declared.standing.Standing.{Standing}
-use Rattle.calls.specs.declared.standing.Standing.TheVariants.{Loose, Ordered, Climbed, Pulled, Won, Closed}
+use Rattle.calls.specs.declared.standing.Standing.TheVariants.{Climbed, Pulled, Won, Closed}
 use Rattle.calls.specs.declared.call.Reply.TheVariants.{Tried}
-use Rattle.calls.specs.Table.{loose, full, among}
+use Rattle.calls.specs.Table.{full, among}
 use Rattle.calls.specs.Points.{Point}
 use Rattle.calls.specs.Parts.{FirstPlan, LastPlan, PlanAt, BlockSize, Kernel}
 use Rattle.calls.specs.Fair.{TryAnswer}

@@ -1,9 +1,8 @@
 -- What each step leaves of what a planner has found.
-use Rattle.std.proofs.Common.{◌≡◌, ℕ, zero, suc, ◌+◌, ◌-◌, ◌<◌, ◌≤◌, Bool, true, false, cond, eqb, List, length, get_or, take, sym, refl, ap, ◌∙◌, subst, inl, inr, arith, eq-eqb}
+use Rattle.std.proofs.Common.{◌≡◌, ℕ, ◌+◌, ◌<◌, ◌≤◌, Bool, true, false, cond, eqb, List, length, take, sym, refl, ap, ◌∙◌, subst, inl, inr, arith, eq-eqb}
 use Rattle.std.proofs.lemmas.List.{length-take-le}
 use Rattle.std.proofs.lemmas.Bool.{false≢true, eqb-true, eqb-false}
-use Rattle.graph.specs.Graph.{Graph, Lawful, vertices}
-use Rattle.graph.specs.Cliques.{CliqueOf}
+use Rattle.graph.specs.Graph.{Graph, vertices}
 use Rattle.graph.specs.Colourings.{Colourable, used}
 use Rattle.graph.specs.Degeneracy.{IsDegeneracy}
 use Rattle.colourings.proofs.Coloured.{coloured_proper}
@@ -25,7 +24,7 @@ use Rattle.calls.specs.Points.{Point, climbed_to}
 use Rattle.calls.specs.Parts.{FirstPlan, PlanAt, BlockSize}
 use Rattle.calls.specs.Fair.{Reported, OrderedNumbers}
 use Rattle.progress.specs.declared.state.Progress.{Progress}
-use Rattle.progress.specs.Holds.{Holds, Found, Unfound, paint}
+use Rattle.progress.specs.Holds.{Holds, Found, paint}
 
 -- two tests are one where each follows from the other
 both : (a b : Bool) → (a ≡ true → b ≡ true) → (b ≡ true → a ≡ true) → a ≡ b

@@ -1,5 +1,5 @@
 -- What a planner has found, over the graph that it holds.
-use Rattle.std.specs.Prelude.{◌≡◌, ℕ, ◌+◌, ◌<◌, ◌≤◌, Bool, true, false, List, length, take, MatchBool, slice_index}
+use Rattle.std.specs.Prelude.{◌≡◌, ℕ, ◌+◌, ◌<◌, ◌≤◌, true, false, List, length, take, MatchBool, slice_index}
 use Rattle.graph.specs.Graph.{Graph, vertices}
 use Rattle.graph.specs.Colourings.{Colourable, used}
 use Rattle.graph.specs.Degeneracy.{CoreOf}
@@ -9,7 +9,6 @@ use Rattle.placings.specs.Colours.{Colours, at}
 use Rattle.kernels.specs.Kernels.{Draws, places, joined}
 use Rattle.peels.specs.Peels.{CoreLeft, Lists}
 use Rattle.calls.specs.declared.standing.Standing.{Standing}
-use Rattle.calls.specs.declared.standing.Standing.TheVariants.{Loose, Ordered, Climbed, Pulled, Won, Closed}
 use Rattle.calls.specs.declared.call.Report.{Report}
 use Rattle.calls.specs.Table.{loose, full, out, among}
 use Rattle.calls.specs.Points.{Point}

@@ -1,15 +1,14 @@
 -- The first line of a sheet, and the whole.
-use Rattle.std.proofs.Common.{◌≡◌, ℕ, zero, suc, ◌+◌, ◌-◌, ◌^◌, ◌<◌, ◌≤◌, Bool, true, false, cond, eqb, ltb, ◌⊎◌, List, [], ◌∷◌, ◌++◌, length, take, drop, set, Some, None, Option, sym, refl, ap, ◌∙◌, subst, inl, inr, arith}
+use Rattle.std.proofs.Common.{◌≡◌, ℕ, ◌^◌, ◌<◌, ◌≤◌, true, ◌⊎◌, List, [], ◌∷◌, length, take, drop, Some, None, sym, ap, ◌∙◌, subst, arith}
 use Rattle.std.proofs.lemmas.List.{length-append}
-use Rattle.std.proofs.lemmas.Bool.{lt-ltb}
-use Rattle.fields.specs.Parts.{Parts, last, more, parts, Cut}
+use Rattle.fields.specs.Parts.{parts, Cut}
 use Rattle.graph.specs.declared.edge.Edge.{Edge}
-use Rattle.grammar.specs.Lines.{field, Said, size, clash, remark, ended, wrong, says}
-use Rattle.grammar.specs.Sheet.{Outcome, states, fault, walk, opened, outcome, limit, plain, written, Reads}
+use Rattle.grammar.specs.Lines.{field, Said, size, wrong, says}
+use Rattle.grammar.specs.Sheet.{Outcome, states, fault, walk, opened, outcome, written, Reads}
 use Rattle.grammar.proofs.Back.{states_both}
 use Rattle.grammar.proofs.Steps.{open_stop, open_line, opened_large, opened_fair, size_long}
 use Rattle.lines.specs.Kept.{told, IsFault, LineFault}
-use Rattle.reading.specs.Read.{Filled, Walked, Stated, Begun, ReadInto}
+use Rattle.reading.specs.Read.{Walked, Stated, Begun, ReadInto}
 use Rattle.lines.specs.declared.Fault.{Fault}
 use Rattle.reading.specs.declared.Opened.{Opened}
 

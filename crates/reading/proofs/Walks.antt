@@ -1,12 +1,12 @@
 -- Where a walk through the lines of a sheet stands.
-use Rattle.std.proofs.Common.{◌≡◌, ℕ, zero, suc, ◌+◌, ◌-◌, ◌<◌, ◌≤◌, Bool, true, false, cond, eqb, ltb, List, [], ◌∷◌, ◌++◌, length, take, drop, set, Some, None, Option, sym, refl, ap, ◌∙◌, subst, arith, Bor}
+use Rattle.std.proofs.Common.{◌≡◌, ℕ, ◌+◌, ◌<◌, ◌≤◌, false, cond, eqb, ltb, List, [], ◌∷◌, ◌++◌, length, take, drop, set, Some, None, Option, sym, refl, ap, ◌∙◌, subst, arith, Bor}
 use Rattle.std.proofs.lemmas.List.{length_push, length-append, length-set, take_more_set, drop-set-lt, drop-drop}
 use Rattle.std.proofs.lemmas.Bool.{ne_eqb}
-use Rattle.fields.specs.Parts.{Parts, last, more, parts, Cut}
+use Rattle.fields.specs.Parts.{parts, Cut}
 use Rattle.graph.specs.declared.edge.Edge.{Edge}
 use Rattle.grammar.specs.Lines.{field, Said, size, clash, remark, ended, wrong, says}
 use Rattle.graph.specs.Edges.{edge, latest}
-use Rattle.grammar.specs.Sheet.{Outcome, states, fault, Verdict, fine, refused, judge, judged, closed, turn, walk}
+use Rattle.grammar.specs.Sheet.{Outcome, states, fault, fine, judge, closed, turn, walk}
 use Rattle.graph.proofs.Edges.{latest_push}
 use Rattle.grammar.proofs.Steps.{walk_stop, walk_line, judged_fine, judged_refused}
 use Rattle.std.specs.Option.{option_map}

@@ -1,10 +1,9 @@
 -- What reading a sheet answers.
-use Rattle.std.specs.Prelude.{◌≡◌, ℕ, ◌+◌, ◌^◌, ◌<◌, ◌≤◌, Bool, true, false, cond, List, [], length, take, drop, nat_lt}
+use Rattle.std.specs.Prelude.{◌≡◌, ℕ, ◌+◌, ◌^◌, ◌<◌, ◌≤◌, true, cond, List, [], length, take, drop, nat_lt}
 use Rattle.fields.specs.Parts.{parts}
 use Rattle.graph.specs.declared.edge.Edge.{Edge}
 use Rattle.grammar.specs.Lines.{field}
-use Rattle.grammar.specs.Sheet.{Outcome, states, fault, closed, walk, outcome, limit, plain, written, Reads}
-use Rattle.lines.specs.declared.Fault.{Fault}
+use Rattle.grammar.specs.Sheet.{Outcome, states, fault, closed, walk, outcome, plain, written, Reads}
 use Rattle.reading.specs.declared.Opened.{Opened}
 
 -- what an end line gives behind any edges of which there are `done`

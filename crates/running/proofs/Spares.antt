@@ -1,10 +1,10 @@
 -- A planner over nothing can be ordered and pulled.
-use Rattle.std.proofs.Common.{◌≡◌, ℕ, ◌<◌, ◌≤◌, Bool, true, false, cond, ◌&&◌, [], ◌∷◌, Ok, Err, Result, sym, refl, ap, ◌∙◌, subst, inl, inr, arith}
+use Rattle.std.proofs.Common.{◌≡◌, ℕ, false, ◌&&◌, [], ◌∷◌, Ok, Err, Result, refl, ap, inl, inr, arith}
 use Rattle.std.proofs.lemmas.Bool.{false≢true, le-ltb}
 use Rattle.std.proofs.lemmas.Bool.Decides.{when_true}
 use Rattle.finite.specs.Finite.{count}
 use Rattle.graph.specs.declared.refusal.Refusal.{Refusal}
-use Rattle.graph.specs.Graph.{Graph, held, vertices}
+use Rattle.graph.specs.Graph.{held, vertices}
 use Rattle.order.specs.Order.{Dense}
 use Rattle.degeneracy.proofs.Orders.{degeneracy_one, degeneracy_none}
 use Rattle.graph.specs.declared.Source.{Ghosts}

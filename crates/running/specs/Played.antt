@@ -1,5 +1,5 @@
 -- A string of calls that a planner has answered.
-use Rattle.std.specs.Prelude.{◌≡◌, cond, List, [], ◌++◌}
+use Rattle.std.specs.Prelude.{◌≡◌, cond, List, ◌++◌}
 use Rattle.bounds.specs.declared.by_size.SizeBound.{SizeBound}
 use Rattle.graph.specs.declared.Source.{Ghosts}
 use Rattle.graph.specs.Graph.{Graph}

@@ -1,9 +1,9 @@
 -- A largest clique of the first places of a picture, place by place.
-use Rattle.std.proofs.Common.{◌≡◌, ℕ, ◌+◌, ◌-◌, ◌<◌, ◌≤◌, Bool, true, false, not, ◌&&◌, ◌||◌, eqb, ltb, ◌⊎◌, sym, refl, ap, ◌∙◌, inl, inr, ⊎_elim, arith}
-use Rattle.std.proofs.lemmas.Bool.{cases_Bool, cases_eq, eqb-true, eq-eqb, ne_eqb, and_parts, and_from, and_right, or_cases, or_left, or_right, both_ways, not-true, not_from_false, ltb-true, lt-ltb}
+use Rattle.std.proofs.Common.{◌≡◌, ℕ, ◌+◌, ◌<◌, ◌≤◌, Bool, true, false, not, ◌&&◌, ◌||◌, eqb, ltb, ◌⊎◌, sym, refl, ap, ◌∙◌, inl, inr, ⊎_elim, arith}
+use Rattle.std.proofs.lemmas.Bool.{cases_Bool, cases_eq, eqb-true, eq-eqb, ne_eqb, and_parts, and_from, and_right, or_cases, or_right, both_ways, not-true, not_from_false, ltb-true, lt-ltb}
 use Rattle.finite.specs.Finite.{count}
 use Rattle.finite.specs.Masks.{bit}
-use Rattle.finite.proofs.Counts.{count_mono, count_less, count_empty}
+use Rattle.finite.proofs.Counts.{count_less, count_empty}
 use Rattle.finite.proofs.Masks.{bit_zero}
 use Rattle.pictures.specs.Pictures.{Clique, joined, neighbours, places}
 use Rattle.pictures.specs.declared.shape.Picture.{Picture}

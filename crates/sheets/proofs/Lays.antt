@@ -1,24 +1,24 @@
 -- All edges of a stock counted, and then laid.
-use Rattle.std.proofs.Common.{◌≡◌, ℕ, ◌+◌, ◌<◌, ◌≤◌, true, false, ◌⊎◌, List, [], ◌∷◌, ◌++◌, length, get_or, take, set, Some, None, Option, sym, refl, ap, ◌∙◌, subst, inl, inr, arith, get_or-set_other}
+use Rattle.std.proofs.Common.{◌≡◌, ℕ, ◌+◌, ◌<◌, ◌≤◌, List, [], ◌∷◌, ◌++◌, length, get_or, take, set, Some, None, Option, sym, refl, ap, ◌∙◌, subst, inl, inr, arith, get_or-set_other}
 use Rattle.std.proofs.lemmas.List.{length-set, length-take-le, take_more, take_all}
 use Rattle.graph.specs.declared.edge.Edge.{Edge}
 use Rattle.graph.specs.declared.refusal.Part.{Part}
 use Rattle.graph.specs.declared.refusal.Part.TheVariants.{Offsets, Neighbours}
 use Rattle.graph.specs.declared.refusal.Refusal.{Refusal}
 use Rattle.graph.specs.Edges.{edge, Good}
-use Rattle.rows.specs.Rows.{Sound, Lists, FirstBad}
+use Rattle.rows.specs.Rows.{Sound, FirstBad}
 use Rattle.rows.proofs.Judged.{one_fault}
 use Rattle.listing.specs.Listing.{row_length, start, LaidRows}
 use Rattle.listing.proofs.Starts.{start_all, place_before}
 use Rattle.listing.proofs.Laid.{laid_none, laid_more}
 use Rattle.listing.proofs.All.{all_laid}
-use Rattle.listing.proofs.Fronts.{NextEdge, next_edge}
+use Rattle.listing.proofs.Fronts.{next_edge}
 use Rattle.tally.specs.declared.state.Tally.{Tally}
 use Rattle.tally.specs.declared.laying.Laying.{Laying}
 use Rattle.tally.specs.Counted.{Counted, counting}
-use Rattle.tally.specs.Laid.{Laid, laying, Room, Full, Broken, Finished, Unfinished}
+use Rattle.tally.specs.Laid.{Laid, laying, Finished, Unfinished}
 use Rattle.tally.proofs.Counts.{counting_none}
-use Rattle.tally.proofs.Lays.{Placed, fault_none}
+use Rattle.tally.proofs.Lays.{fault_none}
 use Rattle.sheets.specs.Into.{LaidInto}
 
 no_some : {A : Type 0} (o : Option A) (x : A) → o ≡ None → o ≡ Some x → ⊥

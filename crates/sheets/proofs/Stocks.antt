@@ -1,5 +1,5 @@
 -- A sheet whose lines are fine, and the lists for its stock.
-use Rattle.std.proofs.Common.{◌≡◌, ℕ, ◌+◌, ◌<◌, ◌≤◌, Bool, true, false, cond, ◌||◌, ltb, ◌⊎◌, List, [], length, take, sym, refl, ap, ◌∙◌, subst, inl, inr, arith}
+use Rattle.std.proofs.Common.{◌≡◌, ℕ, ◌+◌, ◌<◌, ◌≤◌, Bool, true, false, cond, ltb, ◌⊎◌, List, [], length, take, sym, ap, ◌∙◌, subst, inl, inr, arith}
 use Rattle.std.proofs.lemmas.List.{take_all}
 use Rattle.std.proofs.lemmas.Bool.{lt-ltb, le-ltb, or_left, or_right, or_from, both_ways}
 use Rattle.graph.specs.declared.edge.Edge.{Edge}
@@ -10,7 +10,7 @@ use Rattle.graph.specs.Refusals.{number}
 use Rattle.graph.proofs.Refusals.{form_fault_memory, number_memory}
 use Rattle.rows.specs.Rows.{Sound, Lists, FirstBad, Fault as Fits, big, listed, rows}
 use Rattle.rows.proofs.Judged.{big_no}
-use Rattle.grammar.specs.Sheet.{Outcome, states, fault, outcome, limit, written, Reads}
+use Rattle.grammar.specs.Sheet.{states, fault, outcome, limit, written, Reads}
 use Rattle.grammar.proofs.Forth.{reads_states, reads_one, written_reads}
 use Rattle.grammar.proofs.Back.{states_both}
 use Rattle.lines.specs.declared.Fault.{Fault}

@@ -2,7 +2,7 @@
 use Rattle.std.specs.Prelude.{◌≡◌, ℕ, ◌+◌, ◌<◌, ◌≤◌, Bool, ◌||◌, ◌⊎◌, List, [], length, take, nat_lt, slice_index}
 use Rattle.graph.specs.declared.edge.Edge.{Edge}
 use Rattle.rows.specs.Rows.{Lists}
-use Rattle.grammar.specs.Sheet.{Outcome, states, fault, outcome, limit, Reads}
+use Rattle.grammar.specs.Sheet.{Outcome, states, fault, Reads}
 use Rattle.lines.specs.declared.Fault.{Fault}
 use Rattle.lines.specs.Kept.{told}
 

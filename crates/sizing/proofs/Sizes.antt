@@ -6,19 +6,18 @@ use Rattle.graph.specs.declared.refusal.Refusal.TheVariants.{ShortBuffer, TooDen
 use Rattle.finite.proofs.Members.{length_members}
 use Rattle.climbing.specs.Climbs.{BlockIn, LargestAmong}
 use Rattle.order.specs.Order.{Dense}
-use Rattle.graph.specs.Graph.{Graph, held, vertices}
+use Rattle.graph.specs.Graph.{held, vertices}
 use Rattle.graph.specs.Refusals.{number}
 use Rattle.graph.proofs.Graphs.{vertices_le}
 use Rattle.rows.specs.Rows.{listed, rows}
 use Rattle.fields.specs.Rows.{numbers_line}
-use Rattle.grammar.specs.Sheet.{outcome, fault}
+use Rattle.grammar.specs.Sheet.{outcome}
 use Rattle.lines.specs.declared.Fault.{Fault}
-use Rattle.lines.specs.Kept.{told}
 use Rattle.plan.specs.Plan.{PlannedIn, PlanRefused}
 use Rattle.sheets.specs.Into.{Unread}
 use Rattle.sheets.specs.Loaded.{Loaded}
 use Rattle.printout.specs.Printed.{refusal}
-use Rattle.sizing.specs.Sized.{drive_lines, printout, FirstPlan, FormSized, LargestClique, Sized, IsTooDense, Prints}
+use Rattle.sizing.specs.Sized.{drive_lines, printout, FormSized, Prints}
 
 -- a fault of no line
 pub record Unplaced (x : Refusal) (f : Fault) : Type 0 where

@@ -10,7 +10,7 @@ use Rattle.climbing.specs.Climbs.{LargestAmong}
 use Rattle.degeneracy.specs.Order.{IsOrder}
 use Rattle.degeneracy.specs.Greedy.{IsPlan}
 use Rattle.order.specs.Order.{Dense}
-use Rattle.grammar.specs.Sheet.{Outcome, states, fault, outcome}
+use Rattle.grammar.specs.Sheet.{fault, outcome}
 use Rattle.sheets.specs.Loaded.{Loaded}
 use Rattle.printout.specs.Printed.{refusal}
 

@@ -82,7 +82,7 @@ fn pick(kernel: &Kernel, hints: &Hints, table: &[u16], used: usize, k: usize) ->
     requires { places kernel.now ≤ length table.now }
     ensures { Picked kernel.now table.now result }
 {
-    let c = hints.most_taken(kernel, used, k);
+    let c = hints.keenest_taken(kernel, used, k);
     if c < kernel.count() && table[c] == 0 {
         return Some(c);
     }

@@ -1,13 +1,12 @@
 -- What is left after peeling, listed and tried.
-use Rattle.std.proofs.Common.{◌≡◌, ℕ, zero, suc, ◌+◌, ◌-◌, ◌<◌, ◌≤◌, Bool, true, false, cond, not, ◌&&◌, eqb, ltb, ◌⊎◌, List, [], ◌∷◌, length, get_or, take, Some, sym, refl, ap, ◌∙◌, subst, inl, inr, arith}
+use Rattle.std.proofs.Common.{◌≡◌, ℕ, zero, suc, ◌+◌, ◌-◌, ◌<◌, ◌≤◌, Bool, true, List, [], ◌∷◌, length, get_or, take, Some, sym, refl, ap, ◌∙◌, subst, inl, inr, arith}
 use Rattle.std.proofs.lemmas.Bool.{both_ways, cases_lt, le-ltb}
 use Rattle.std.proofs.lemmas.Bool.Decides.{nat_tests}
-use Rattle.finite.specs.Finite.{count, has, members, nth}
+use Rattle.finite.specs.Finite.{count, members, nth}
 use Rattle.finite.proofs.Counts.{count_same}
 use Rattle.finite.proofs.Members.{length_members, count_rise, members_at, members_some}
 use Rattle.finite.proofs.Rising.{nth-get_or}
-use Rattle.graph.specs.Graph.{Graph, held, inside}
-use Rattle.graph.specs.Cliques.{Clique}
+use Rattle.graph.specs.Graph.{Graph, held}
 use Rattle.graph.proofs.Graphs.{inside_same, vertices_le}
 use Rattle.graph.specs.declared.refusal.Refusal.{Refusal}
 use Rattle.graph.specs.declared.refusal.Refusal.TheVariants.{TooDense}
@@ -22,7 +21,7 @@ use Rattle.climbing.specs.Climbs.{BlockIn}
 use Rattle.kernels.specs.Kernels.{Draws}
 use Rattle.kernels.specs.declared.shape.Kernel.{Kernel}
 use Rattle.trying.specs.Trying.{PulledIn, Wide}
-use Rattle.peels.specs.Peels.{Peeled, CoreLeft, Lists, CliqueNumber}
+use Rattle.peels.specs.Peels.{CoreLeft, Lists, CliqueNumber}
 
 -- n places have a colouring in n colours
 pub plenty : (n : ℕ) (E : ℕ → ℕ → Bool) (k : ℕ) → n ≤ k → Loopless n E → Colours n E k (λ i. i + 1)

@@ -1,13 +1,13 @@
 -- Colours for the kernel and for what was taken out.
-use Rattle.std.proofs.Common.{◌≡◌, ℕ, ◌-◌, ◌<◌, ◌≤◌, max, Bool, true, ◌⊎◌, List, length, get_or, take, sym, refl, ap, ◌∙◌, subst, inl, inr, arith}
+use Rattle.std.proofs.Common.{◌≡◌, ℕ, ◌-◌, ◌<◌, ◌≤◌, max, List, get_or, take, subst, inl, inr, arith}
 use Rattle.std.proofs.lemmas.Bool.{cases_lt}
 use Rattle.graph.specs.declared.refusal.Refusal.{Refusal}
-use Rattle.graph.specs.Graph.{Graph, Lawful, held}
-use Rattle.graph.specs.Colourings.{Coloured, ColouredIn, Colourable}
+use Rattle.graph.specs.Graph.{Graph, Lawful}
+use Rattle.graph.specs.Colourings.{Coloured, ColouredIn}
 use Rattle.graph.proofs.Graphs.{held_below}
 use Rattle.degeneracy.specs.Order.{survivors}
 use Rattle.degeneracy.proofs.Orders.{survivors_held}
-use Rattle.placings.specs.Colours.{Colours, at}
+use Rattle.placings.specs.Colours.{at}
 use Rattle.kernels.specs.Kernels.{places, joined}
 use Rattle.kernels.specs.declared.shape.Kernel.{Kernel}
 use Rattle.peels.specs.Peels.{CliqueNumber}

@@ -1,5 +1,5 @@
 -- Trying the kernel of a graph, one number of colours after another.
-use Rattle.std.specs.Prelude.{◌≡◌, ℕ, ◌<◌, ◌≤◌, Bool, ◌⊎◌, List}
+use Rattle.std.specs.Prelude.{◌≡◌, ℕ, ◌<◌, ◌≤◌, ◌⊎◌, List}
 use Rattle.finite.specs.Finite.{count}
 use Rattle.graph.specs.declared.refusal.Refusal.{Refusal}
 use Rattle.graph.specs.declared.refusal.Refusal.TheVariants.{TooDense, TooWide}
@@ -11,7 +11,6 @@ use Rattle.placings.specs.Colours.{Colours, at}
 use Rattle.peels.specs.Peels.{CoreLeft, Lists, CliqueNumber}
 use Rattle.kernels.specs.Kernels.{Draws, places, joined}
 use Rattle.kernels.specs.declared.shape.Kernel.{Kernel}
-use Rattle.putback.specs.Backs.{paint}
 
 -- after the list p is taken out, the t-core is left; it is listed, and drawn
 pub record PulledIn (g : Graph) (t : ℕ) (chosen p : List ℕ) (q : Kernel) : Type 0 where

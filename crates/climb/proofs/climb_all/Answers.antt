@@ -1,4 +1,4 @@
-use Rattle.std.proofs.Common.{◌≡◌, ◌-◌, refl, arith}
+use Rattle.std.proofs.Common.{◌-◌, refl, arith}
 use Rattle.std.proofs.lemmas.Result.{err_from_is_err_and}
 use Rattle.climbing.proofs.Blocks.{climb_none, climb_more, climb_all, few_none, few_more, few_all, refused_dense, never_dense}
 use Rattle.climb.proofs.climb_all.Goals as goal

@@ -1,4 +1,4 @@
-use Rattle.std.proofs.Common.{◌≡◌, eqb, sym, inl, inr, arith}
+use Rattle.std.proofs.Common.{eqb, sym, inl, inr, arith}
 use Rattle.std.proofs.lemmas.Bool.{eq-eqb, or_left}
 use Rattle.climbing.specs.Climbs.{picked}
 use Rattle.climbing.proofs.Blocks.{picked_here, picked_none, picked_more, picked_all}

@@ -1,5 +1,4 @@
-use Rattle.std.proofs.Common.{◌≡◌, ℕ, ◌+◌, ◌<◌, Bool, take, sym, ap, ◌∙◌, arith}
-use Rattle.finite.specs.Finite.{count}
+use Rattle.std.proofs.Common.{ℕ, ◌+◌, ◌<◌, Bool, take, sym, ap, ◌∙◌, arith}
 use Rattle.finite.proofs.Counts.{count_zero, count_more_yes, count_more_no}
 use Rattle.climbing.specs.Climbs.{picked, plus}
 use Rattle.climbing.proofs.Blocks.{block_none, block_yes, block_no, block_here}

@@ -1,4 +1,4 @@
-use Rattle.std.proofs.Common.{◌≡◌, ℕ, ◌+◌, ◌-◌, ◌<◌, ◌&&◌, ltb, refl, ap, ◌∙◌, inl, inr, arith}
+use Rattle.std.proofs.Common.{ℕ, ◌-◌, ◌<◌, ◌&&◌, ltb, refl, ap, ◌∙◌, inl, inr, arith}
 use Rattle.finite.specs.Masks.{bit}
 use Rattle.searching.proofs.Search.{start, popped, next_fits, pushed}
 use Rattle.searching.proofs.Weights.{load_popped, load_pushed}

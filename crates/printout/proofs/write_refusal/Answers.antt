@@ -1,4 +1,4 @@
-use Rattle.std.proofs.Common.{◌≡◌, vec_items, sym, ap, ◌∙◌}
+use Rattle.std.proofs.Common.{vec_items, sym, ap, ◌∙◌}
 use Rattle.graph.specs.Refusals.{number}
 use Rattle.printout.proofs.Prints.{nine_line, other_line}
 use Rattle.printout.proofs.write_refusal.Goals as goal

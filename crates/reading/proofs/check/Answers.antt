@@ -1,4 +1,3 @@
-use Rattle.std.proofs.Common.{rules}
 use Rattle.reading.proofs.Opens.{stated}
 use Rattle.reading.proofs.check.Goals as goal
 

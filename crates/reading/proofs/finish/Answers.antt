@@ -1,4 +1,4 @@
-use Rattle.std.proofs.Common.{arith, rules}
+use Rattle.std.proofs.Common.{arith}
 use Rattle.grammar.proofs.Steps.{ends_well}
 use Rattle.reading.proofs.finish.Goals as goal
 

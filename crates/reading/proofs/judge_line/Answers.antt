@@ -1,4 +1,4 @@
-use Rattle.std.proofs.Common.{◌≡◌, ◌⊎◌, sym, refl, ◌∙◌, inl, inr, arith, rules}
+use Rattle.std.proofs.Common.{sym, refl, ◌∙◌, inl, inr, arith}
 use Rattle.grammar.proofs.Steps.{judge_many, judge_first, judge_second, judge_taken, judge_order}
 use Rattle.reading.proofs.judge_line.Goals as goal
 use Rattle.reading.proofs.judge_line.Goals.{else-a-b-via-then-a-b+else-is_above, else-a-b-via-else-a-b}

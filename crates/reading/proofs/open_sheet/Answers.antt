@@ -1,11 +1,10 @@
-use Rattle.std.proofs.Common.{◌≡◌, ℕ, ◌+◌, ◌<◌, ◌≤◌, true, ◌⊎◌, Some, None, sym, refl, ap, ◌∙◌, subst, inl, inr, arith, rules}
+use Rattle.std.proofs.Common.{true, Some, refl, ap, subst, inl, inr, arith}
 use Rattle.std.proofs.lemmas.Result.{err_from_is_err_and}
 use Rattle.fields.specs.Parts.{Cut}
 use Rattle.grammar.specs.Sheet.{fault}
 use Rattle.grammar.specs.Lines.{clash, remark, ended}
 use Rattle.graph.specs.declared.refusal.Refusal.TheVariants.{TooLarge}
-use Rattle.lines.specs.declared.Line.TheVariants.{Size, Clash, Remark, End}
-use Rattle.lines.specs.Kept.{told, IsFault, Kept}
+use Rattle.lines.specs.Kept.{IsFault, Kept}
 use Rattle.reading.proofs.Walks.{cut_some, cut_none}
 use Rattle.reading.proofs.Opens.{opens_not, opens_wrong, opens_misplaced, opens_large, opens}
 use Rattle.reading.proofs.open_sheet.Goals as goal

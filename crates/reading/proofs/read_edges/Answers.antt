@@ -1,4 +1,4 @@
-use Rattle.std.proofs.Common.{arith, rules}
+use Rattle.std.proofs.Common.{arith}
 use Rattle.reading.proofs.Opens.{read_into}
 use Rattle.reading.proofs.read_edges.Goals as goal
 

@@ -1,13 +1,12 @@
-use Rattle.std.proofs.Common.{◌≡◌, ℕ, ◌+◌, ◌<◌, ◌≤◌, List, [], ◌∷◌, ◌++◌, length, set, Some, None, sym, refl, ap, ◌∙◌, subst, arith, rules}
+use Rattle.std.proofs.Common.{◌≡◌, List, [], ◌∷◌, ◌++◌, length, Some, sym, ◌∙◌, subst, arith}
 use Rattle.std.proofs.lemmas.Result.{err_from_is_err_and}
-use Rattle.std.proofs.lemmas.List.{length-set}
 use Rattle.fields.specs.Parts.{Cut}
 use Rattle.graph.specs.declared.edge.Edge.{Edge}
 use Rattle.grammar.proofs.Back.{judge_done}
 use Rattle.lines.specs.declared.Line.TheVariants.{Size, Clash, Remark, End}
 use Rattle.lines.specs.Kept.{told, IsFault}
 use Rattle.reading.specs.Read.{Filled}
-use Rattle.reading.proofs.Walks.{Going, going_stop, going_wrong, going_size, going_refused, going_end, going_all, going_more, going_remark, filled_then, filled_else, going_same, shorter, cut_some, cut_none, kept_later}
+use Rattle.reading.proofs.Walks.{going_stop, going_wrong, going_size, going_refused, going_end, going_all, going_more, going_remark, filled_then, filled_else, going_same, shorter, cut_some, cut_none, kept_later}
 use Rattle.reading.proofs.walk_lines.Goals as goal
 use Rattle.reading.proofs.walk_lines.Goals.{In-Some, in-Clash+in_ok-e-in-Clash, then-done-edges, else-done-edges, in-Remark}
 

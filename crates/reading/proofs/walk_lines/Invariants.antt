@@ -1,5 +1,4 @@
-use Rattle.std.proofs.Common.{◌+◌, ◌≤◌, length}
-use Rattle.fields.specs.Parts.{parts}
+use Rattle.std.proofs.Common.{length}
 use Rattle.reading.proofs.Walks.{Going}
 use Rattle.reading.proofs.walk_lines.Given as goal
 

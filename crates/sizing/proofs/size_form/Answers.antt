@@ -1,9 +1,9 @@
-use Rattle.std.proofs.Common.{◌≡◌, ℕ, ◌-◌, ◌≤◌, true, false, length, take, is_ok, vec_items, sym, refl, ap, ◌∙◌, subst, inl, inr, arith}
+use Rattle.std.proofs.Common.{◌≡◌, ℕ, ◌-◌, ◌≤◌, length, take, is_ok, vec_items, sym, refl, ap, ◌∙◌, subst, inl, arith}
 use Rattle.std.proofs.lemmas.List.{length-take-le}
 use Rattle.std.proofs.lemmas.Result.{err_from_is_err_and}
 use Rattle.std.proofs.lemmas.Bool.{false≢true}
-use Rattle.graph.specs.Graph.{Graph, held}
-use Rattle.rows.specs.Rows.{listed, rows}
+use Rattle.graph.specs.Graph.{held}
+use Rattle.rows.specs.Rows.{listed}
 use Rattle.rows.proofs.Props.{sound_of}
 use Rattle.degeneracy.specs.Order.{IsOrder, IsPeak}
 use Rattle.climbing.specs.Climbs.{BlockIn}

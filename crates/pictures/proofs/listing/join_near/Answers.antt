@@ -1,4 +1,4 @@
-use Rattle.std.proofs.Common.{◌≡◌, ℕ, get_or, sym, ap, ◌∙◌, subst, arith}
+use Rattle.std.proofs.Common.{◌≡◌, ℕ, sym, ap, ◌∙◌, subst, arith}
 use Rattle.grids.specs.Draws.{Drawn}
 use Rattle.grids.proofs.Draws.{drawn_yes, drawn_no, drawn_row}
 use Rattle.pictures.specs.Pictures.{joined, places}

@@ -1,4 +1,4 @@
-use Rattle.std.proofs.Common.{◌≤◌, length, take, arith}
+use Rattle.std.proofs.Common.{length, take, arith}
 use Rattle.sheets.proofs.Lays.{lay_none, lay_never, lay_next, lay_all}
 use Rattle.sheets.proofs.laying_out.lay_all.Goals as goal
 

@@ -1,7 +1,6 @@
-use Rattle.std.proofs.Common.{◌≡◌, is_ok, sym, refl, ap, ◌∙◌, subst, inl, inr, arith}
+use Rattle.std.proofs.Common.{is_ok, sym, refl, ap, ◌∙◌, subst}
 use Rattle.std.proofs.lemmas.Result.{err_from_is_err_and}
 use Rattle.std.proofs.lemmas.Bool.{false≢true}
-use Rattle.graph.proofs.Graphs.{vertices_le}
 use Rattle.degeneracy.specs.Order.{IsOrder, IsPeak}
 use Rattle.climbing.proofs.Later.{order_once}
 use Rattle.trying.proofs.Pulls.{front_is, block_number, order_dense}

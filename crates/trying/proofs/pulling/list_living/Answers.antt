@@ -1,4 +1,4 @@
-use Rattle.std.proofs.Common.{◌≡◌, ℕ, ◌+◌, Bool, take, ap, ◌∙◌, arith}
+use Rattle.std.proofs.Common.{ℕ, ◌+◌, Bool, take, ap, ◌∙◌, arith}
 use Rattle.supports.specs.Peel.{alive}
 use Rattle.supports.proofs.Peels.{alive_yes, alive_no}
 use Rattle.climbing.proofs.Blocks.{block_none, block_yes, block_no}

@@ -1,4 +1,4 @@
-use Rattle.std.proofs.Common.{◌≡◌, ◌≤◌, length, take}
+use Rattle.std.proofs.Common.{◌≡◌, ◌≤◌, take}
 use Rattle.finite.specs.Finite.{members}
 use Rattle.supports.specs.Peel.{alive}
 use Rattle.trying.proofs.pulling.list_living.Given as goal

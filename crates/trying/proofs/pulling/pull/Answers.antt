@@ -1,4 +1,4 @@
-use Rattle.std.proofs.Common.{◌≡◌, arith}
+use Rattle.std.proofs.Common.{arith}
 use Rattle.std.proofs.lemmas.Result.{err_from_is_err_and}
 use Rattle.trying.proofs.Pulls.{front_is, pull_wide, pull_drawn}
 use Rattle.trying.proofs.pulling.pull.Goals as goal

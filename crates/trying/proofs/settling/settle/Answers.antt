@@ -1,4 +1,4 @@
-use Rattle.std.proofs.Common.{◌≡◌, refl, arith}
+use Rattle.std.proofs.Common.{arith}
 use Rattle.trying.proofs.Settles.{lay_never, back_never, settled}
 use Rattle.trying.proofs.settling.settle.Goals as goal
 

@@ -1,4 +1,4 @@
-use Rattle.std.proofs.Common.{◌≡◌, ℕ, ◌-◌, length, take, replicate, sym, refl, ap, ◌∙◌, subst, arith}
+use Rattle.std.proofs.Common.{◌≡◌, ℕ, ◌-◌, length, take, replicate, refl, ap, subst, arith}
 use Rattle.kernels.specs.Kernels.{places}
 use Rattle.putback.specs.Backs.{BackIn, BackRefused, Laid}
 use Rattle.progress.proofs.Kernels.{new_plan, blank, back_fits}

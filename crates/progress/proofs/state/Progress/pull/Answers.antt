@@ -1,4 +1,4 @@
-use Rattle.std.proofs.Common.{◌≡◌, ℕ, ◌-◌, ◌<◌, ◌≤◌, length, take, sym, refl, ap, ◌∙◌, subst, inl, inr, arith}
+use Rattle.std.proofs.Common.{◌≡◌, ℕ, ◌-◌, ◌<◌, ◌≤◌, length, take, refl, ap, subst, inl, inr, arith}
 use Rattle.finite.specs.Finite.{count, members}
 use Rattle.supports.specs.Peel.{alive}
 use Rattle.kernels.specs.Kernels.{Draws}

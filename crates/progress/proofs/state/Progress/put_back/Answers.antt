@@ -1,4 +1,4 @@
-use Rattle.std.proofs.Common.{◌≡◌, refl}
+use Rattle.std.proofs.Common.{refl}
 use Rattle.progress.proofs.Kernels.{closed, won_pulled}
 use Rattle.progress.proofs.state.Progress.put_back.Goals as goal
 

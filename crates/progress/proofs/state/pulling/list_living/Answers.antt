@@ -1,4 +1,4 @@
-use Rattle.std.proofs.Common.{◌≡◌, ℕ, ◌+◌, ◌<◌, ◌≤◌, true, List, length, take, sym, refl, ap, ◌∙◌, subst₂, arith, length-set}
+use Rattle.std.proofs.Common.{◌≡◌, ℕ, ◌+◌, ◌<◌, ◌≤◌, List, length, take, sym, ◌∙◌, subst₂, arith, length-set}
 use Rattle.finite.specs.Finite.{count, members}
 use Rattle.finite.proofs.Counts.{count_zero, count_more_yes, count_more_no}
 use Rattle.finite.proofs.Members.{count_rise}
