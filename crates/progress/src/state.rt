@@ -3,7 +3,7 @@ ghost use Rattle.std.specs.Prelude.{◌≤◌};
 use calls::standing::Standing;
 use kernels::Kernel;
 
-mod climbing;
+mod climbs;
 mod closing;
 mod opening;
 mod ordering;
