@@ -3,3 +3,4 @@ pub mod Later
 pub mod Drawn
 pub mod Numbers
 pub mod Blocks
+pub mod Tails

@@ -4,8 +4,8 @@
 
 use anyhow::{Context, anyhow};
 use bounds::{Bound, ClassBound, SizeBound};
-use climb::climb_all;
 use graph::refusal::Refusal;
+use listed_climb::climb_all;
 use order::removal_order;
 use sheets::load;
 use sources::list_form::ListForm;

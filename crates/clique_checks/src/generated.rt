@@ -1,7 +1,5 @@
 use crate::exhaustive::{is_clique, most_joined};
 use bounds::{Bound, ClassBound, SizeBound};
-use climb::climb_all;
-use cliques::largest;
 use pictures::{Picture, draw};
 use sources::list_form::ListForm;
 use std::alloc::{AllocError, Global};
@@ -72,20 +70,40 @@ fn form_of(heap: Global, rows: &[u64; 14], n: usize) -> Result<ListForm, Fail> {
     Ok(form)
 }
 
-// The search inside `mask` for more than `size`, where a largest clique has `most` members.
-fn agrees<B: Bound>(rt: &impl Abort, bound: &B, p: &Picture, mask: u64, most: u32) {
-    for size in 0..15 {
-        match largest(bound, p, mask, size) {
-            Some(k) => {
-                assert_eq!(rt; k.count_ones(), most);
-                assert!(rt; k & !mask == 0 && is_clique(p, k) && most as usize > size);
-            }
-            None => assert!(rt; most as usize <= size),
+// What a search inside `mask` for more than `size` answered, where a largest clique has `most` members.
+fn is_right(rt: &impl Abort, p: &Picture, mask: u64, most: u32, size: usize, found: Option<u64>) {
+    match found {
+        Some(k) => {
+            assert_eq!(rt; k.count_ones(), most);
+            assert!(rt; k & !mask == 0 && is_clique(p, k) && most as usize > size);
         }
+        None => assert!(rt; most as usize <= size),
     }
 }
 
-// One generated graph of `n` places: the search with each bound inside a mask, and the climb in the order of the numbers.
+// The two searches inside `mask`, for more than each size.
+fn agrees<B: Bound>(rt: &impl Abort, bound: &B, p: &Picture, mask: u64, most: u32) {
+    for size in 0..15 {
+        is_right(
+            rt,
+            p,
+            mask,
+            most,
+            size,
+            cliques::largest(bound, p, mask, size),
+        );
+        is_right(
+            rt,
+            p,
+            mask,
+            most,
+            size,
+            branching::largest(bound, p, mask, size),
+        );
+    }
+}
+
+// One generated graph of `n` places: the searches with each bound inside a mask, and the climbs in the order of the numbers.
 fn try_one(
     rt: &impl Abort,
     heap: Global,
@@ -104,8 +122,11 @@ fn try_one(
     agrees(rt, &ClassBound {}, &p, mask, most);
     agrees(rt, &TwoPartBound(ClassBound {}), &p, mask, most);
     let mut block = [0u16; 64];
-    let count = climb_all(&form, &ClassBound {}, &order[0..n], &mut block)?;
-    assert_eq!(rt; count, most_joined(&p, u64::MAX) as usize);
+    let whole = most_joined(&p, u64::MAX) as usize;
+    let count = climb::climb_all(&form, &ClassBound {}, &order[0..n], &mut block)?;
+    assert_eq!(rt; count, whole);
+    let count = listed_climb::climb_all(&form, &ClassBound {}, &order[0..n], &mut block)?;
+    assert_eq!(rt; count, whole);
     Ok(())
 }
 

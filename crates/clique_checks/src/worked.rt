@@ -8,7 +8,22 @@ use std::process::Abort;
 use std::test::Fail;
 use two_part::TwoPartBound;
 
-// The climb through `order` ends with `most` vertices that all clash.
+// The first `count` of the block are `most` vertices that all clash.
+fn holds(
+    rt: &impl Abort,
+    form: &ListForm,
+    block: &[u16; 64],
+    count: usize,
+    most: usize,
+) -> Result<(), Fail> {
+    assert_eq!(rt; count, most);
+    assert!(rt; count < 64);
+    let p = draw(form, &block[0..count])?;
+    assert!(rt; is_clique(&p, (1 << count) - 1));
+    Ok(())
+}
+
+// Each climb through `order` ends with `most` vertices that all clash.
 fn climbs<B: Bound>(
     rt: &impl Abort,
     bound: &B,
@@ -18,11 +33,9 @@ fn climbs<B: Bound>(
 ) -> Result<(), Fail> {
     let mut block = [0u16; 64];
     let count = climb_all(form, bound, order, &mut block)?;
-    assert_eq!(rt; count, most);
-    assert!(rt; count < 64);
-    let p = draw(form, &block[0..count])?;
-    assert!(rt; is_clique(&p, (1 << count) - 1));
-    Ok(())
+    holds(rt, form, &block, count, most)?;
+    let count = listed_climb::climb_all(form, bound, order, &mut block)?;
+    holds(rt, form, &block, count, most)
 }
 
 // The same with each bound.

@@ -43,7 +43,7 @@ pub fn largest<B: Bound>(bound: &B, p: &Picture, mask: u64, size: usize) -> Opti
 }
 
 // Whether `m` and the bound on its cliques both pass `room`: otherwise no clique inside `m` does.
-fn may_pass<B: Bound>(bound: &B, p: &Picture, m: u64, room: usize) -> bool
+pub fn may_pass<B: Bound>(bound: &B, p: &Picture, m: u64, room: usize) -> bool
     ensures value { result ≡ (nat_lt room (count (bit m) 64) && nat_lt room (B.Bound.answer bound.now p.now m)) }
     ensures left { result ≡ false → AtMost p.now m room }
     ensures some { result ≡ true → 0 < m }
