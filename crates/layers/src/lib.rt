@@ -3,7 +3,7 @@
 
 ghost use Rattle.std.specs.Prelude.{◌≡◌, ℕ, ◌≤◌, true, false, not, ◌&&◌, ◌||◌, length, MatchResult, ◌==◌};
 ghost use Rattle.graph.specs.Hiding.{without, marked, Hides, Shows, hide_answer, show_answer};
-ghost use Rattle.std.proofs.Common.{rules, arith};
+ghost use Rattle.graph.proofs.Hiding.{lawful_without};
 
 use graph::refusal::Refusal;
 use graph::{Listed, Source};
@@ -73,7 +73,7 @@ impl<S: Listed + Drop> HideLayer<S> {
 impl<S: Listed + Drop> Source for HideLayer<S> {
     ghost graph = { λ s. without (S.Source.graph s.below) (marked s.hidden) };
 
-    ghost lawful = { first_of (Prim.search rules, Prim.grind (arith, Self.row.coded.inj)) };
+    ghost lawful = { λ s. lawful_without (S.Source.graph s.below) (marked s.hidden) (S.Source.lawful s.below) };
 
     fn size(&self) -> usize {
         self.below.size()

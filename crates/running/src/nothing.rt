@@ -1,6 +1,7 @@
 // A stock without numbers.
-ghost use Rattle.running.specs.Nothing.{nothing};
-ghost use Rattle.std.proofs.Common.{rules};
+ghost use Rattle.running.specs.Nothing.{nothing, no_clash};
+ghost use Rattle.std.proofs.Common.{◌∙◌, lit<, sym};
+ghost use Rattle.std.specs.Prelude.{nat_lt};
 
 use graph::{Listed, Source};
 
@@ -10,7 +11,12 @@ pub struct Nothing {}
 impl Source for Nothing {
     ghost graph = { λ _. nothing };
 
-    ghost lawful = { Prim.search rules };
+    ghost lawful = { λ _.
+        record {
+          small = lit< tt;
+          both = λ a b. no_clash (nat_lt a 0) (nat_lt b 0) ∙ sym (no_clash (nat_lt b 0) (nat_lt a 0));
+          never = λ a. no_clash (nat_lt a 0) (nat_lt a 0);
+        } };
 
     fn size(&self) -> usize {
         0
