@@ -1,5 +1,5 @@
 // Walks along the edges of a vertex, over a table that leads from edge to edge.
-ghost use Rattle.std.specs.Prelude.{◌≡◌, ℕ, ◌+◌, ◌<◌, ◌≤◌, true, false, ◌&&◌, length, take, if◌then◌else◌, ◌==◌, ◌≢◌, nat_eq, nat_lt, slice_index};
+ghost use Rattle.std.specs.Prelude.{◌≡◌, ℕ, ◌+◌, ◌<◌, ◌≤◌, true, false, ◌&&◌, length, take, if◌then◌else◌, ◌==◌, ◌≢◌, nat_lt, slice_index};
 ghost use Rattle.finite.specs.Finite.{count, has};
 ghost use Rattle.supports.specs.Peel.{alive, Losers};
 ghost use Rattle.supports.proofs.Queues.{Queue};
@@ -32,7 +32,7 @@ fn before(list: &[Edge], table: &[u16], e: usize, u: usize) -> usize
     requires within { e < length list.now }
     requires few { length list.now ≤ 16384 }
     requires long { 33792 ≤ length table.now }
-    ensures { result ≡ (if nat_eq (edge_at list.now e).a u then slice_index table.now (1024 + e) else slice_index table.now (17408 + e)) }
+    ensures { result ≡ (if (edge_at list.now e).a == u then slice_index table.now (1024 + e) else slice_index table.now (17408 + e)) }
 {
     if list[e].a as usize == u {
         table[1024 + e] as usize

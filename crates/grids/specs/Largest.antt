@@ -1,5 +1,5 @@
 -- Two lists of classes, a number for each place, and the largest pair of sizes that both allow.
-use Rattle.std.specs.Prelude.{◌≡◌, ℕ, zero, suc, ◌+◌, ◌≤◌, max, Bool, true, cond, ◌&&◌, leb, List, length, nat_le, slice_index}
+use Rattle.std.specs.Prelude.{◌≡◌, ℕ, zero, suc, ◌+◌, ◌≤◌, max, Bool, true, cond, ◌&&◌, List, length, nat_le, slice_index}
 use Rattle.finite.specs.Finite.{any, count}
 use Rattle.finite.specs.Masks.{bit}
 
@@ -32,7 +32,7 @@ largest u w = most (λ s. most (λ r. cond (qualifies u w r s) (r + s) 0) 65) 65
 
 -- how many numbers of a list are s or more
 abbrev pub at_least : List ℕ → ℕ → ℕ
-at_least ts s = count (λ k. leb s (slice_index ts k)) (length ts)
+at_least ts s = count (λ k. nat_le s (slice_index ts k)) (length ts)
 
 -- the largest degree in a class
 abbrev pub top : (ℕ → ℕ) → ℕ → ℕ

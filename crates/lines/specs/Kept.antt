@@ -1,5 +1,5 @@
 -- What a line keeps of its fields, and what a fault says.
-use Rattle.std.specs.Prelude.{◌≡◌, ℕ, ◌-◌, ◌≤◌, Bool, false, ltb, List, Some, Option, nat_lt}
+use Rattle.std.specs.Prelude.{◌≡◌, ℕ, ◌-◌, ◌≤◌, Bool, false, List, Some, Option, nat_lt}
 use Rattle.fields.specs.Numerals.{numeral}
 use Rattle.fields.specs.Parts.{parts}
 use Rattle.graph.specs.Refusals.{number}
@@ -27,7 +27,7 @@ pub record Figured (bytes : List ℕ) (x : Figure) : Type 0 where
 pub record TwoKept (rest : Option (List ℕ)) (t : Two) : Type 0 where
   pub first : Figured (fields_of rest 0) t.a
   pub second : Figured (fields_of rest 1) t.b
-  pub whole : ltb 2 (count_of rest) ≡ false
+  pub whole : nat_lt 2 (count_of rest) ≡ false
 
 pub record TwoFault (rest : Option (List ℕ)) (k : ℕ) (f : Fault) : Type 0 where
   pub says : (say : ℕ → ℕ → Said) → both say (numeral (fields_of rest 0)) (numeral (fields_of rest 1)) (nat_lt 2 (count_of rest)) ≡ wrong f.field

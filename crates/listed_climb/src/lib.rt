@@ -1,7 +1,7 @@
 // The climb from lists of neighbours: all steps at once, with one picture for the last 64 vertices of the order.
 #![tactic(auto)]
 
-ghost use Rattle.std.specs.Prelude.{◌≡◌, ℕ, ◌<◌, ◌≤◌, true, false, ◌||◌, length, get_or, take, is_ok, MatchOption, MatchResult, ◌==◌, slice_index_or};
+ghost use Rattle.std.specs.Prelude.{◌≡◌, ℕ, ◌<◌, ◌≤◌, true, false, ◌||◌, length, take, is_ok, MatchOption, MatchResult, ◌==◌, slice_index_or};
 ghost use Rattle.climbing.specs.Climbs.{BlockIn, ClimbRefused, Climbs, EachOnce, FewLater, Reaches, Searched, StepRefused, later_list, picked};
 ghost use Rattle.degeneracy.specs.Order.{IsOrder, IsPeak};
 ghost use Rattle.finite.specs.Finite.{count, members};
@@ -97,10 +97,10 @@ fn picked_table(chosen: &[u16], mask: u64) -> [bool; 1024]
 fn write_block(block: &mut [u16], n: usize, table: &[bool]) -> usize
     requires small { n ≤ 1024 }
     requires within { n ≤ length table.now }
-    requires few { count (λ c. get_or table.now c false) n ≤ 64 }
+    requires few { count (λ c. slice_index_or table.now c false) n ≤ 64 }
     requires fits { 64 ≤ length block.old }
-    ensures len { result ≡ count (λ c. get_or table.now c false) n }
-    ensures items { take result block.new ≡ members (λ c. get_or table.now c false) n }
+    ensures len { result ≡ count (λ c. slice_index_or table.now c false) n }
+    ensures items { take result block.new ≡ members (λ c. slice_index_or table.now c false) n }
 {
     let mut len = 0;
     for c in 0..n {

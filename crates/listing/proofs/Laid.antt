@@ -21,25 +21,25 @@ place_fits n es done ns c s l h = omega (arith, place_before es c n (row_length 
 written : List Edge → List Edge → List ℕ → ℕ → ℕ → List ℕ
 written es done ns a b = set (set ns (start es a + row_length done a) b) (start es b + row_length done b) a
 
-module _ (n : ℕ) (es done : List Edge) (ns : List ℕ) (a b : ℕ) (s : LaidRows n es done ns) (up : a < b) (below : b < n) (free-a : row_length done a < row_length es a) (free-b : row_length done b < row_length es b) where
+module _ (n : ℕ) (es done : List Edge) (ns : List ℕ) (a b : ℕ) (s : LaidRows n es done ns) (up : a < b) (below : b < n) (free_a : row_length done a < row_length es a) (free_b : row_length done b < row_length es b) where
   -- what is laid stays
   written_kept : (c i : ℕ) → c < n → i < row_length done c → get_or (written es done ns a b) (start es c + i) 0 ≡ get_or ns (start es c + i) 0
   unfolding written
   written_kept c i l x =
       let f = s.fits c l in
-      get_or-set_other (set ns (start es a + row_length done a) b) (start es b + row_length done b) (start es c + i) a 0 (λ q. let r = place_one es c b i (row_length done b) (omega arith) free-b q in let z = ap (row_length done) r.0 in omega (arith, r.1))
-      ∙ get_or-set_other ns (start es a + row_length done a) (start es c + i) b 0 (λ q. let r = place_one es c a i (row_length done a) (omega arith) free-a q in let z = ap (row_length done) r.0 in omega (arith, r.1))
+      get_or-set_other (set ns (start es a + row_length done a) b) (start es b + row_length done b) (start es c + i) a 0 (λ q. let r = place_one es c b i (row_length done b) (omega arith) free_b q in let z = ap (row_length done) r.0 in omega (arith, r.1))
+      ∙ get_or-set_other ns (start es a + row_length done a) (start es c + i) b 0 (λ q. let r = place_one es c a i (row_length done a) (omega arith) free_a q in let z = ap (row_length done) r.0 in omega (arith, r.1))
 
   written_first : get_or (written es done ns a b) (start es a + row_length done a) 0 ≡ b
   unfolding written
   written_first =
-      get_or-set_other (set ns (start es a + row_length done a) b) (start es b + row_length done b) (start es a + row_length done a) a 0 (λ q. let r = place_one es a b (row_length done a) (row_length done b) free-a free-b q in omega (arith, r.0))
-      ∙ get_or-set_same ns (start es a + row_length done a) b 0 (place_fits n es done ns a s (omega arith) free-a)
+      get_or-set_other (set ns (start es a + row_length done a) b) (start es b + row_length done b) (start es a + row_length done a) a 0 (λ q. let r = place_one es a b (row_length done a) (row_length done b) free_a free_b q in omega (arith, r.0))
+      ∙ get_or-set_same ns (start es a + row_length done a) b 0 (place_fits n es done ns a s (omega arith) free_a)
 
   written_second : get_or (written es done ns a b) (start es b + row_length done b) 0 ≡ a
   unfolding written
   written_second =
-      get_or-set_same (set ns (start es a + row_length done a) b) (start es b + row_length done b) a 0 (omega (arith, length-set ns (start es a + row_length done a) b, place_fits n es done ns b s below free-b))
+      get_or-set_same (set ns (start es a + row_length done a) b) (start es b + row_length done b) a 0 (omega (arith, length-set ns (start es a + row_length done a) b, place_fits n es done ns b s below free_b))
 
   written_length : length (written es done ns a b) ≡ length ns
   unfolding written

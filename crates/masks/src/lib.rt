@@ -1,7 +1,7 @@
 // Masks of 64 places as sets of numbers: the contracts speak of `bit` and `count` alone.
 #![tactic(auto)]
 
-ghost use Rattle.std.specs.Prelude.{ℕ, ◌^◌, ◌<◌, ◌≤◌, eqb, ltb, ◌&&◌, ◌||◌, not, true, false, ◌≡◌};
+ghost use Rattle.std.specs.Prelude.{ℕ, ◌^◌, ◌<◌, ◌≤◌, ◌==◌, nat_lt, ◌&&◌, ◌||◌, not, true, false, ◌≡◌};
 ghost use Rattle.finite.specs.Finite.{count};
 ghost use Rattle.finite.specs.Masks.{bit};
 
@@ -44,7 +44,7 @@ pub fn highest(m: u64) -> usize
 // `m` and `i`.
 pub fn with(m: u64, i: usize) -> u64
     requires { i < 64 }
-    ensures { (j : ℕ) → bit result j ≡ (bit m j || eqb j i) }
+    ensures { (j : ℕ) → bit result j ≡ (bit m j || j == i) }
 {
     m | 1 << i
 }
@@ -53,7 +53,7 @@ pub fn with(m: u64, i: usize) -> u64
 pub fn without(m: u64, i: usize) -> u64
     requires place { i < 64 }
     requires member { bit m i ≡ true }
-    ensures members { (j : ℕ) → bit result j ≡ (bit m j && not (eqb j i)) }
+    ensures members { (j : ℕ) → bit result j ≡ (bit m j && not (j == i)) }
     ensures less { result < m }
 {
     m ^ 1 << i
@@ -77,7 +77,7 @@ pub fn minus(a: u64, b: u64) -> u64
 // The numbers below `n`.
 pub fn below(n: usize) -> u64
     requires { n ≤ 64 }
-    ensures { (j : ℕ) → bit result j ≡ ltb j n }
+    ensures { (j : ℕ) → bit result j ≡ nat_lt j n }
 {
     if n == 64 { u64::MAX } else { (1 << n) - 1 }
 }

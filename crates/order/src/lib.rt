@@ -1,7 +1,7 @@
 //! The order in which the vertices of a graph are removed, fewest living neighbours first.
 #![tactic(auto)]
 
-ghost use Rattle.std.specs.Prelude.{◌≡◌, ℕ, ◌+◌, ◌<◌, ◌≤◌, true, false, length, get_or, take, drop, if◌then◌else◌, MatchOption, MatchResult, slice_index, slice_index_or};
+ghost use Rattle.std.specs.Prelude.{◌≡◌, ℕ, ◌+◌, ◌<◌, ◌≤◌, true, false, length, take, drop, if◌then◌else◌, MatchOption, MatchResult, slice_index, slice_index_or};
 ghost use Rattle.finite.specs.Finite.{Fewest};
 ghost use Rattle.graph.specs.Graph.{held, clash, degree, vertices};
 ghost use Rattle.graph.specs.Degeneracy.{IsDegeneracy};
@@ -68,7 +68,7 @@ fn fill_degrees<S: Listed>(source: &S, left: &mut [u16])
 // The living number below n with the least in `left`, the lowest of those.
 fn fewest(alive: &[bool], left: &[u16], n: usize) -> Option<usize>
     requires { (n ≤ length alive.now) × (n ≤ length left.now) }
-    ensures { MatchOption result ((c : ℕ) → c < n → slice_index_or alive.now c false ≡ false) (λ x. Fewest (λ c. get_or alive.now c false) (λ c. slice_index left.now c) n x) }
+    ensures { MatchOption result ((c : ℕ) → c < n → slice_index_or alive.now c false ≡ false) (λ x. Fewest (λ c. slice_index_or alive.now c false) (λ c. slice_index left.now c) n x) }
 {
     let mut best = None;
     for c in 0..n {

@@ -32,22 +32,22 @@ going_none n m text before =
     record { edges = []; on = refl; count = refl; last_is = refl; place = omega arith; later = omega arith; few = omega arith; long = refl; filled = λ l. (refl, refl) }
 
 -- the line that comes next, and what it says
-pub going_line : (n m : ℕ) (text rest : List ℕ) (at done : ℕ) (o : Option Edge) (before after : List Edge) (g : Going n m text rest at done o before after) (line after_Line : List ℕ) (sd : Said) → Cut 10 rest line (Some after_Line) → says false (parts 9 line) ≡ sd → walk n m [] 2 (parts 10 text) ≡ turn n m g.edges at (parts 9 line) sd (λ es. walk n m es (at + 1) (parts 10 after_Line)) (parts 10 after_Line)
-going_line n m text rest at done o before after g line after_Line sd c s =
-    sym g.on ∙ walk_line n m g.edges at (parts 10 rest) line (parts 10 after_Line) sd c.0 s
+pub going_line : (n m : ℕ) (text rest : List ℕ) (at done : ℕ) (o : Option Edge) (before after : List Edge) (g : Going n m text rest at done o before after) (line after_line : List ℕ) (sd : Said) → Cut 10 rest line (Some after_line) → says false (parts 9 line) ≡ sd → walk n m [] 2 (parts 10 text) ≡ turn n m g.edges at (parts 9 line) sd (λ es. walk n m es (at + 1) (parts 10 after_line)) (parts 10 after_line)
+going_line n m text rest at done o before after g line after_line sd c s =
+    sym g.on ∙ walk_line n m g.edges at (parts 10 rest) line (parts 10 after_line) sd c.0 s
 
 pub going_stop : (n m : ℕ) (text rest : List ℕ) (at done : ℕ) (o : Option Edge) (before after : List Edge) (front : List ℕ) → Going n m text rest at done o before after → Cut 10 rest front None → walk n m [] 2 (parts 10 text) ≡ fault 9 at 1 []
 going_stop n m text rest at done o before after front g c = sym g.on ∙ walk_stop n m g.edges at (parts 10 rest) front c.0
 
-pub shorter : (rest line after_Line : List ℕ) → Cut 10 rest line (Some after_Line) → length after_Line + 1 ≤ length rest
-shorter rest line after_Line c = let a = ap length c.1 in let b = length-append line (10 ∷ after_Line) in omega arith
+pub shorter : (rest line after_line : List ℕ) → Cut 10 rest line (Some after_line) → length after_line + 1 ≤ length rest
+shorter rest line after_line c = let a = ap length c.1 in let b = length-append line (10 ∷ after_line) in omega arith
 
-pub going_remark : (n m : ℕ) (text rest : List ℕ) (at done : ℕ) (o : Option Edge) (before after : List Edge) (line after_Line : List ℕ) → Going n m text rest at done o before after → Cut 10 rest line (Some after_Line) → says false (parts 9 line) ≡ remark → Going n m text after_Line (at + 1) done o before after
-going_remark n m text rest at done o before after line after_Line g c s =
-    let z = shorter rest line after_Line c in
+pub going_remark : (n m : ℕ) (text rest : List ℕ) (at done : ℕ) (o : Option Edge) (before after : List Edge) (line after_line : List ℕ) → Going n m text rest at done o before after → Cut 10 rest line (Some after_line) → says false (parts 9 line) ≡ remark → Going n m text after_line (at + 1) done o before after
+going_remark n m text rest at done o before after line after_line g c s =
+    let z = shorter rest line after_line c in
     record {
       edges = g.edges;
-      on = sym (going_line n m text rest at done o before after g line after_Line remark c s);
+      on = sym (going_line n m text rest at done o before after g line after_line remark c s);
       count = g.count;
       last_is = g.last_is;
       place = omega (arith, g.place);
@@ -73,16 +73,16 @@ pub filled_full : (before after : List Edge) (es : List Edge) (e : Edge) → len
 filled_full before after es e l h r = let p = length_push es e in absurd (omega arith)
 
 -- an edge is taken, and stands in the buffer if there is room
-pub going_more : (n m : ℕ) (text rest : List ℕ) (at done : ℕ) (o : Option Edge) (before after : List Edge) (line after_Line : List ℕ) (a b : ℕ) (e : Edge) (new : List Edge) (g : Going n m text rest at done o before after) → Cut 10 rest line (Some after_Line) → says false (parts 9 line) ≡ clash a b → judge n m done o a b ≡ fine → e ≡ edge a b → done < m → length new ≡ length after → ((es : List Edge) → length es ≡ done → Filled before after es → Filled before new (es ++ e ∷ [])) → Going n m text after_Line (at + 1) (done + 1) (Some e) before new
-going_more n m text rest at done o before after line after_Line a b e new g c s j i l k f =
-    let z = shorter rest line after_Line c in
+pub going_more : (n m : ℕ) (text rest : List ℕ) (at done : ℕ) (o : Option Edge) (before after : List Edge) (line after_line : List ℕ) (a b : ℕ) (e : Edge) (new : List Edge) (g : Going n m text rest at done o before after) → Cut 10 rest line (Some after_line) → says false (parts 9 line) ≡ clash a b → judge n m done o a b ≡ fine → e ≡ edge a b → done < m → length new ≡ length after → ((es : List Edge) → length es ≡ done → Filled before after es → Filled before new (es ++ e ∷ [])) → Going n m text after_line (at + 1) (done + 1) (Some e) before new
+going_more n m text rest at done o before after line after_line a b e new g c s j i l k f =
+    let z = shorter rest line after_line c in
     let v : judge n m (length g.edges) (latest g.edges) a b ≡ fine =
     ap (λ (x : ℕ). judge n m x (latest g.edges) a b) g.count ∙ ap (λ x. judge n m done x a b) g.last_is ∙ j in
     record {
       edges = g.edges ++ e ∷ [];
-      on = ap (λ x. walk n m (g.edges ++ x ∷ []) (at + 1) (parts 10 after_Line)) i
-          ∙ sym (judged_fine at (parts 9 line) (judge n m (length g.edges) (latest g.edges) a b) (walk n m (g.edges ++ edge a b ∷ []) (at + 1) (parts 10 after_Line)) v)
-          ∙ sym (going_line n m text rest at done o before after g line after_Line (clash a b) c s);
+      on = ap (λ x. walk n m (g.edges ++ x ∷ []) (at + 1) (parts 10 after_line)) i
+          ∙ sym (judged_fine at (parts 9 line) (judge n m (length g.edges) (latest g.edges) a b) (walk n m (g.edges ++ edge a b ∷ []) (at + 1) (parts 10 after_line)) v)
+          ∙ sym (going_line n m text rest at done o before after g line after_line (clash a b) c s);
       count = length_push g.edges e ∙ ap (λ (x : ℕ). x + 1) g.count;
       last_is = latest_push g.edges e;
       place = omega (arith, g.place);
@@ -93,36 +93,36 @@ going_more n m text rest at done o before after line after_Line a b e new g c s 
     }
 
 -- a refused clash
-pub going_refused : (n m : ℕ) (text rest : List ℕ) (at done : ℕ) (o : Option Edge) (before after : List Edge) (line after_Line : List ℕ) (a b : ℕ) (f : Fault) → Going n m text rest at done o before after → Cut 10 rest line (Some after_Line) → says false (parts 9 line) ≡ clash a b → Refused (judge n m done o a b) line at f → walk n m [] 2 (parts 10 text) ≡ told f
-going_refused n m text rest at done o before after line after_Line a b f g c s r =
+pub going_refused : (n m : ℕ) (text rest : List ℕ) (at done : ℕ) (o : Option Edge) (before after : List Edge) (line after_line : List ℕ) (a b : ℕ) (f : Fault) → Going n m text rest at done o before after → Cut 10 rest line (Some after_line) → says false (parts 9 line) ≡ clash a b → Refused (judge n m done o a b) line at f → walk n m [] 2 (parts 10 text) ≡ told f
+going_refused n m text rest at done o before after line after_line a b f g c s r =
     let v : judge n m (length g.edges) (latest g.edges) a b ≡ judge n m done o a b =
     ap (λ (x : ℕ). judge n m x (latest g.edges) a b) g.count ∙ ap (λ x. judge n m done x a b) g.last_is in
-    let t = going_line n m text rest at done o before after g line after_Line (clash a b) c s in
-    let u = judged_refused at (parts 9 line) (judge n m (length g.edges) (latest g.edges) a b) (walk n m (g.edges ++ edge a b ∷ []) (at + 1) (parts 10 after_Line)) _ _ (v ∙ r.verdict) in
+    let t = going_line n m text rest at done o before after g line after_line (clash a b) c s in
+    let u = judged_refused at (parts 9 line) (judge n m (length g.edges) (latest g.edges) a b) (walk n m (g.edges ++ edge a b ∷ []) (at + 1) (parts 10 after_line)) _ _ (v ∙ r.verdict) in
     let x = r.line in let y = r.shown in cc
 
 -- a line that breaks its form
-pub going_wrong : (n m : ℕ) (text rest : List ℕ) (at done : ℕ) (o : Option Edge) (before after : List Edge) (line after_Line : List ℕ) (f : Fault) → Going n m text rest at done o before after → Cut 10 rest line (Some after_Line) → LineFault (eqb at 1) line at f → walk n m [] 2 (parts 10 text) ≡ told f
-going_wrong n m text rest at done o before after line after_Line f g c w =
+pub going_wrong : (n m : ℕ) (text rest : List ℕ) (at done : ℕ) (o : Option Edge) (before after : List Edge) (line after_line : List ℕ) (f : Fault) → Going n m text rest at done o before after → Cut 10 rest line (Some after_line) → LineFault (eqb at 1) line at f → walk n m [] 2 (parts 10 text) ≡ told f
+going_wrong n m text rest at done o before after line after_line f g c w =
     let l = g.later in
     let e : eqb at 1 ≡ false = ne_eqb at 1 (λ q. omega arith) in
-    let t = going_line n m text rest at done o before after g line after_Line (wrong f.field) c (ap (λ b. says b (parts 9 line)) (sym e) ∙ w.says) in
+    let t = going_line n m text rest at done o before after g line after_line (wrong f.field) c (ap (λ b. says b (parts 9 line)) (sym e) ∙ w.says) in
     let x = w.fault_is.code in let y = w.fault_is.line in let z = w.fault_is.shown in cc
 
-pub going_size : (n m : ℕ) (text rest : List ℕ) (at done : ℕ) (o : Option Edge) (before after : List Edge) (line after_Line : List ℕ) (f : Fault) (a b : ℕ) → Going n m text rest at done o before after → Cut 10 rest line (Some after_Line) → says false (parts 9 line) ≡ size a b → IsFault 9 at 1 (field (parts 9 line) 0) f → walk n m [] 2 (parts 10 text) ≡ told f
-going_size n m text rest at done o before after line after_Line f a b g c s w =
-    let t = going_line n m text rest at done o before after g line after_Line (size a b) c s in
+pub going_size : (n m : ℕ) (text rest : List ℕ) (at done : ℕ) (o : Option Edge) (before after : List Edge) (line after_line : List ℕ) (f : Fault) (a b : ℕ) → Going n m text rest at done o before after → Cut 10 rest line (Some after_line) → says false (parts 9 line) ≡ size a b → IsFault 9 at 1 (field (parts 9 line) 0) f → walk n m [] 2 (parts 10 text) ≡ told f
+going_size n m text rest at done o before after line after_line f a b g c s w =
+    let t = going_line n m text rest at done o before after g line after_line (size a b) c s in
     let x = w.code in let y = w.line in let z = w.shown in let u = w.field in cc
 
 -- the end
-pub going_end : (n m : ℕ) (text rest : List ℕ) (at done : ℕ) (o : Option Edge) (before after : List Edge) (line after_Line : List ℕ) (answer : ℕ → List Edge → Outcome) (g : Going n m text rest at done o before after) → Cut 10 rest line (Some after_Line) → says false (parts 9 line) ≡ ended → Ends n m line at done after_Line answer → walk n m [] 2 (parts 10 text) ≡ answer n g.edges
-going_end n m text rest at done o before after line after_Line answer g c s e =
-    let t = going_line n m text rest at done o before after g line after_Line ended c s in
-    t ∙ ap (λ (x : ℕ). cond (ltb x m) (fault 12 at 1 (field (parts 9 line) 0)) (closed n g.edges (at + 1) (parts 10 after_Line))) g.count ∙ e g.edges g.count
+pub going_end : (n m : ℕ) (text rest : List ℕ) (at done : ℕ) (o : Option Edge) (before after : List Edge) (line after_line : List ℕ) (answer : ℕ → List Edge → Outcome) (g : Going n m text rest at done o before after) → Cut 10 rest line (Some after_line) → says false (parts 9 line) ≡ ended → Ends n m line at done after_line answer → walk n m [] 2 (parts 10 text) ≡ answer n g.edges
+going_end n m text rest at done o before after line after_line answer g c s e =
+    let t = going_line n m text rest at done o before after g line after_line ended c s in
+    t ∙ ap (λ (x : ℕ). cond (ltb x m) (fault 12 at 1 (field (parts 9 line) 0)) (closed n g.edges (at + 1) (parts 10 after_line))) g.count ∙ e g.edges g.count
 
-pub going_all : (n m : ℕ) (text rest : List ℕ) (at done : ℕ) (o : Option Edge) (before after : List Edge) (line after_Line : List ℕ) → Going n m text rest at done o before after → Cut 10 rest line (Some after_Line) → says false (parts 9 line) ≡ ended → Ends n m line at done after_Line (λ n es. states n es) → Walked (walk n m [] 2 (parts 10 text)) n before after done
-going_all n m text rest at done o before after line after_Line g c s e =
-    record { edges = g.edges; states_them = going_end n m text rest at done o before after line after_Line (λ n es. states n es) g c s e; count = g.count; filled = g.filled }
+pub going_all : (n m : ℕ) (text rest : List ℕ) (at done : ℕ) (o : Option Edge) (before after : List Edge) (line after_line : List ℕ) → Going n m text rest at done o before after → Cut 10 rest line (Some after_line) → says false (parts 9 line) ≡ ended → Ends n m line at done after_line (λ n es. states n es) → Walked (walk n m [] 2 (parts 10 text)) n before after done
+going_all n m text rest at done o before after line after_line g c s e =
+    record { edges = g.edges; states_them = going_end n m text rest at done o before after line after_line (λ n es. states n es) g c s e; count = g.count; filled = g.filled }
 
 pub cut_some : (rest front : List ℕ) (o : Option (Bor (List ℕ))) (x : Bor (List ℕ)) → Cut 10 rest front (option_map (λ x. x.now) o) → o ≡ Some x → Cut 10 rest front (Some x.now)
 cut_some rest front o x c e = subst (λ p. Cut 10 rest front (option_map (λ x. x.now) p)) e c

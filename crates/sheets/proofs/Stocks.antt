@@ -15,7 +15,7 @@ use Rattle.grammar.proofs.Forth.{reads_states, reads_one, written_reads}
 use Rattle.grammar.proofs.Back.{states_both}
 use Rattle.lines.specs.declared.Fault.{Fault}
 use Rattle.lines.specs.Kept.{told}
-use Rattle.reading.specs.Read.{Stated, ReadInto as Edges-into}
+use Rattle.reading.specs.Read.{Stated, ReadInto as EdgesInto}
 use Rattle.forms.proofs.Forms.{has_edges, one_form, one_edges}
 use Rattle.sheets.specs.Into.{short, Unread, LaidInto, ReadInto}
 use Rattle.sheets.specs.Loaded.{Loaded, Rewritten}
@@ -63,7 +63,7 @@ edges_fit s n m room f w l e =
     let z : ◌≡◌ {A = ℕ} 0 1 = cc in omega arith
 
 -- the edges that were read are those that the sheet states
-pub edges_are : (s : List ℕ) (n m p q : ℕ) (before after : List Edge) (w : Stated s n m) → Edges-into s p q before after → length after ≡ m → after ≡ w.edges
+pub edges_are : (s : List ℕ) (n m p q : ℕ) (before after : List Edge) (w : Stated s n m) → EdgesInto s p q before after → length after ≡ m → after ≡ w.edges
 edges_are s n m p q before after w r l =
     let one = reads_one s p n (take q after) w.edges r.reads w.reads in
     let a = ap length one.1 in

@@ -1,5 +1,5 @@
 -- The two-part bound is sound over a sound bound.
-use Rattle.std.specs.Prelude.{◌≡◌, ℕ, ◌/◌, ◌^◌, ◌<◌, ◌≤◌, Bool, true, false, not, ◌&&◌, ltb, nat_lt}
+use Rattle.std.specs.Prelude.{◌≡◌, ℕ, ◌/◌, ◌^◌, ◌<◌, ◌≤◌, Bool, true, false, not, ◌&&◌, nat_lt}
 use Rattle.std.proofs.Common.{ap, ◌∙◌, arith}
 use Rattle.std.proofs.lemmas.Bool.{and_parts, and_from, lt-ltb, not-true, both_ways}
 use Rattle.finite.specs.Finite.{count}
@@ -36,6 +36,6 @@ module _ (answer : Picture → ℕ → ℕ) (law : (p : Picture) (m : ℕ) (K : 
 
   pub two_part_sound : count K 64 ≤ two_part answer p m
   two_part_sound =
-      parts_sound p.rows p.even p.loopless (places p) p.small (lower_part p m) (upper_part p m) K (λ i. ltb i (places p / 2)) k.placed in_lower in_upper k.joins (clique_degree answer p (upper_part p m)) (clique_degree answer p (lower_part p m))
+      parts_sound p.rows p.even p.loopless (places p) p.small (lower_part p m) (upper_part p m) K (λ i. nat_lt i (places p / 2)) k.placed in_lower in_upper k.joins (clique_degree answer p (upper_part p m)) (clique_degree answer p (lower_part p m))
       (λ i x. let h = and_parts (K i) (nat_lt i (places p / 2)) x in across i h.0 (λ j. not (nat_lt j (places p / 2))) (upper_part p m) (ap not h.1) in_upper)
-      (λ i x. let h = and_parts (K i) (not (nat_lt i (places p / 2))) x in across i h.0 (λ j. ltb j (places p / 2)) (lower_part p m) (not-true (nat_lt i (places p / 2)) h.1) in_lower)
+      (λ i x. let h = and_parts (K i) (not (nat_lt i (places p / 2))) x in across i h.0 (λ j. nat_lt j (places p / 2)) (lower_part p m) (not-true (nat_lt i (places p / 2)) h.1) in_lower)

@@ -1,4 +1,4 @@
-ghost use Rattle.std.specs.Prelude.{◌≡◌, ℕ, ◌+◌, ◌<◌, ◌≤◌, ◌&&◌, leb, length, take, if◌then◌else◌, nat_le, slice_index};
+ghost use Rattle.std.specs.Prelude.{◌≡◌, ℕ, ◌+◌, ◌<◌, ◌≤◌, ◌&&◌, length, take, if◌then◌else◌, nat_le, slice_index};
 ghost use Rattle.grids.specs.Largest.{at_least, largest, most};
 
 use crate::parts::Degrees;
@@ -45,7 +45,7 @@ fn best_with(us: &[u32], reached: &[usize], s: usize) -> usize
     requires few { length us.now ≤ 64 }
     requires len { length reached.now ≡ 65 }
     requires within { s ≤ 64 }
-    ensures { result ≡ most (λ r. (if leb r (at_least us.now s) && nat_le s (slice_index reached.now r) then r + s else 0)) 65 }
+    ensures { result ≡ most (λ r. (if nat_le r (at_least us.now s) && nat_le s (slice_index reached.now r) then r + s else 0)) 65 }
 {
     let mut best = 0;
     for r in 0..reach(us, s) + 1 {
