@@ -7,6 +7,7 @@ ghost use Rattle.fields.specs.Numerals.{Numeral, numeral, read_on};
 ghost use Rattle.fields.specs.Parts.{Cut};
 ghost use Rattle.fields.specs.Rows.{numbers_line};
 
+use itoa::Buffer;
 use std::alloc::AllocError;
 
 // The most digits that a number may have.
@@ -46,10 +47,8 @@ pub fn number(field: &[u8]) -> Option<u32>
 pub fn write_number(out: &mut Vec<u8>, v: u64) -> Result<(), AllocError>
     ensures { OnOk result (out.new.items ≡ out.old.items ++ decimal v) }
 {
-    if v >= 10 {
-        write_number(out, v / 10)?;
-    }
-    out.push(b'0' + (v % 10) as u8)?;
+    let mut digits = Buffer::new();
+    out.extend_from_slice(digits.format(v).as_bytes())?;
     Ok(())
 }
 
@@ -76,16 +75,14 @@ pub struct Piece<'a> {
 pub fn cut<'a>(text: &'a [u8], at: u8) -> Piece<'a>
     ensures { Cut at text.now result.front.now (option_map (λ x. x.now) result.rest) }
 {
-    for i in 0..text.len() {
-        if text[i] == at {
-            return Piece {
-                front: &text[0..i],
-                rest: Some(&text[i + 1..]),
-            };
-        }
-    }
-    Piece {
-        front: text,
-        rest: None,
+    match text.iter().position(|c| *c == at) {
+        Some(i) => Piece {
+            front: &text[..i],
+            rest: Some(&text[i + 1..]),
+        },
+        None => Piece {
+            front: text,
+            rest: None,
+        },
     }
 }

@@ -1,3 +1,4 @@
+pub mod Chains
 pub mod Counts
 pub mod Masks
 pub mod Members

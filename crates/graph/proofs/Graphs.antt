@@ -1,8 +1,8 @@
-use Rattle.std.proofs.Common.{◌≡◌, ℕ, ◌+◌, ◌<◌, ◌≤◌, Bool, true, false, ◌&&◌, ltb, Some, None, sym, ap, ◌∙◌, inl, inr}
+use Rattle.std.proofs.Common.{◌≡◌, ℕ, ◌+◌, ◌<◌, ◌≤◌, Bool, true, false, ◌&&◌, ltb, Some, None, sym, ap, ◌∙◌, inl, inr, arith}
 use Rattle.std.proofs.lemmas.Bool.{cases_Bool, cases_eq, and_parts, and_from, and_left, and_right, ltb-true}
-use Rattle.finite.specs.Finite.{members, nth}
+use Rattle.finite.specs.Finite.{count, members, nth}
 use Rattle.finite.proofs.Counts.{count_le, count_mono, count_same, count_less, count_pos}
-use Rattle.finite.proofs.Members.{members_at, members_past}
+use Rattle.finite.proofs.Members.{count_rise, members_at, members_past}
 use Rattle.graph.specs.Graph.{Graph, Ranked, held, clash, inside, degree, vertices}
 
 pub held_below : (g : Graph) (c : ℕ) → held g c ≡ true → c < g.size
@@ -65,3 +65,8 @@ degree_le g c = count_le (clash g c) g.size
 pub vertices_le : (g : Graph) → vertices g ≤ g.size
 unfolding vertices
 vertices_le g = count_le (held g) g.size
+
+-- a neighbour's rank is below the degree
+pub rank_below : (g : Graph) (c i b : ℕ) → (b < g.size) × (clash g c b ≡ true) × (count (clash g c) b ≡ i) → i < degree g c
+unfolding degree
+rank_below g c i b r = omega (arith, r.2, count_rise (clash g c) b g.size r.0 r.1)

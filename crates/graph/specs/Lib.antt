@@ -5,3 +5,4 @@ pub mod Degeneracy
 pub mod Edges
 pub mod Hiding
 pub mod Refusals
+pub mod Neighbours

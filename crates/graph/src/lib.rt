@@ -5,6 +5,7 @@ ghost use Rattle.finite.specs.Finite.{count, members, nth};
 ghost use Rattle.graph.specs.Graph.{Graph, Lawful, held, clash, degree};
 
 pub mod edge;
+pub mod neighbours;
 pub mod refusal;
 
 // A graph on the numbers below `size`, known by three questions.
@@ -28,28 +29,13 @@ pub trait Listed: Source {
     fn degree(&self, c: usize) -> usize
         ensures { result ≡ degree (Self.Source.graph self.now) c }
     {
-        let mut count = 0;
-        for b in 0..self.size() {
-            if self.clashes(c, b) {
-                count += 1;
-            }
-        }
-        count
+        (0..self.size()).filter(|b| self.clashes(c, *b)).count()
     }
 
     fn neighbour(&self, c: usize, i: usize) -> Option<usize>
         ensures listed { result ≡ nth (members (clash (Self.Source.graph self.now) c) (Self.Source.graph self.now).size) i }
         ensures ranked { MatchOption result (degree (Self.Source.graph self.now) c ≤ i) (λ b. (b < (Self.Source.graph self.now).size) × (clash (Self.Source.graph self.now) c b ≡ true) × (count (clash (Self.Source.graph self.now) c) b ≡ i)) }
     {
-        let mut before = 0;
-        for b in 0..self.size() {
-            if self.clashes(c, b) {
-                if before == i {
-                    return Some(b);
-                }
-                before += 1;
-            }
-        }
-        None
+        (0..self.size()).filter(|b| self.clashes(c, *b)).nth(i)
     }
 }

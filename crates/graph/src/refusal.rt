@@ -1,5 +1,8 @@
 ghost use Rattle.std.specs.Prelude.{◌≡◌};
 ghost use Rattle.graph.specs.Refusals.{number, part_number};
+ghost use Rattle.graph.specs.declared.refusal.Refusal.TheVariants.{NoMemory};
+
+use std::alloc::AllocError;
 
 // Which of the two lists of a list form is meant.
 #[derive(Clone, Copy, PartialEq, Eq, Debug)]
@@ -8,12 +11,12 @@ pub enum Part {
     Neighbours,
 }
 
-impl Part {
-    // Offsets are part 0, neighbours part 1.
-    pub fn number(&self) -> u8
-        ensures { result ≡ part_number self.now }
-    {
-        match self {
+// Offsets are part 0, neighbours part 1.
+impl From<Part> for u8 {
+    ghost from_gives = { λ p n. n ≡ part_number p };
+
+    fn from(part: Part) -> Self {
+        match part {
             Part::Offsets => 0,
             Part::Neighbours => 1,
         }
@@ -51,12 +54,12 @@ pub enum Refusal {
     NoMemory,
 }
 
-impl Refusal {
-    // The number that stands for the refusal.
-    pub fn number(&self) -> u8
-        ensures { result ≡ number self.now }
-    {
-        match self {
+// The number that stands for the refusal.
+impl From<Refusal> for u8 {
+    ghost from_gives = { λ x n. n ≡ number x };
+
+    fn from(refusal: Refusal) -> Self {
+        match refusal {
             Refusal::OutOfRange => 1,
             Refusal::NotSo => 2,
             Refusal::OutOfTurn => 3,
@@ -71,5 +74,13 @@ impl Refusal {
             Refusal::Miscounted => 12,
             Refusal::NoMemory => 99,
         }
+    }
+}
+
+impl From<AllocError> for Refusal {
+    ghost from_gives = { λ _ x. x ≡ NoMemory };
+
+    fn from(_error: AllocError) -> Self {
+        Self::NoMemory
     }
 }

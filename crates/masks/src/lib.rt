@@ -4,6 +4,8 @@
 ghost use Rattle.std.specs.Prelude.{ℕ, ◌^◌, ◌<◌, ◌≤◌, ◌==◌, nat_lt, ◌&&◌, ◌||◌, not, true, false, ◌≡◌};
 ghost use Rattle.finite.specs.Finite.{count};
 ghost use Rattle.finite.specs.Masks.{bit};
+ghost use Rattle.masks.specs.Members.{Steps};
+ghost use Rattle.std.specs.Iterator.{at_most};
 
 // Whether `i` is a member of `m`.
 pub fn has(m: u64, i: usize) -> bool
@@ -80,4 +82,36 @@ pub fn below(n: usize) -> u64
     ensures { (j : ℕ) → bit result j ≡ nat_lt j n }
 {
     if n == 64 { u64::MAX } else { (1 << n) - 1 }
+}
+
+// The members of a mask, rising.
+#[derive(Clone, Copy)]
+pub struct Members {
+    rest: u64,
+}
+
+impl Members {
+    // The members of `m`, one after another.
+    pub fn of(m: u64) -> Members
+        ensures { result.rest ≡ m }
+    {
+        Members { rest: m }
+    }
+}
+
+impl Iterator for Members {
+    type Item = usize;
+
+    ghost next_gives = { λ s r t. Steps s.rest r t.rest };
+
+    ghost remaining = { λ s. at_most (count (bit s.rest) 64) };
+
+    fn next(&mut self) -> Option<usize> {
+        if self.rest == 0 {
+            return None;
+        }
+        let i = lowest(self.rest);
+        self.rest = without(self.rest, i);
+        Some(i)
+    }
 }

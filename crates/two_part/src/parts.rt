@@ -3,7 +3,7 @@ ghost use Rattle.grids.specs.Largest.{at_least, top};
 ghost use Rattle.two_part.specs.TwoPart.{clique_degree, part_reaching};
 
 use bounds::{Bound, classes};
-use masks::{lowest, meet, without};
+use masks::{Members, meet};
 use pictures::Picture;
 
 // The largest clique degree of each class of a part: the first `count` numbers.
@@ -32,11 +32,8 @@ fn top<B: Bound>(bound: &B, p: &Picture, class: u64, other: u64) -> u32
     ensures { result ≡ top (clique_degree (B.Bound.answer bound.now) p.now other) class }
 {
     let mut best: u32 = 0;
-    let mut rest = class;
-    while rest != 0 {
-        let i = lowest(rest);
+    for i in Members::of(class) {
         best = best.max(bound.bound(p, meet(p.row(i), other)));
-        rest = without(rest, i);
     }
     best
 }

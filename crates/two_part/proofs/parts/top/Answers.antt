@@ -4,14 +4,15 @@ use Rattle.two_part.specs.TwoPart.{clique_degree}
 use Rattle.two_part.proofs.Values.{degree_is}
 use Rattle.two_part.proofs.parts.top.Goals as goal
 
-pub loop-rest-preserved : goal.loop-rest-preserved
-loop-rest-preserved g c =
+pub loop-i-preserved : goal.loop-i-preserved
+loop-i-preserved g c =
     let f = g.B.Bound.answer c.args.bound.now in
     let p = c.args.p.now in
-    top_turn (clique_degree f p c.args.other) c.args.class c.loop-rest.rest c.without-rest.result c.lowest-i.result c.loop-rest.best c.bound.result c.max-best.result c.loop-rest.invariant c.lowest-i.ensures.place c.lowest-i.ensures.member c.without-rest.ensures.members
-    (degree_is f p c.args.other c.lowest-i.result c.row.result c.meet.result c.bound.result (omega arith) c.row.ensures c.meet.ensures.members c.bound.ensures)
+    let s = c.in-Some.ensures.steps in
+    top_turn (clique_degree f p c.args.other) c.args.class c.loop-i.i-iterator.rest c.next.new.self.rest c.in-Some.i c.loop-i.best c.bound.result c.max-best.result c.loop-i.invariant s.0 s.1 s.3
+    (degree_is f p c.args.other c.in-Some.i c.row.result c.meet.result c.bound.result (omega (arith, s.0)) c.row.ensures c.meet.ensures.members c.bound.ensures)
     c.max-best.ensures
 
 pub returns : goal.returns
 returns g c =
-    top_all (clique_degree (g.B.Bound.answer c.args.bound.now) c.args.p.now c.args.other) c.args.class c.loop-rest.rest c.loop-rest.best c.loop-rest.invariant c.loop-rest-test.false
+    top_all (clique_degree (g.B.Bound.answer c.args.bound.now) c.args.p.now c.args.other) c.args.class c.loop-i.i-iterator.rest c.loop-i.best c.loop-i.invariant c.in-None.ensures.steps.0

@@ -3,9 +3,9 @@ use Rattle.grids.specs.Largest.{top}
 use Rattle.two_part.specs.TwoPart.{clique_degree}
 use Rattle.two_part.proofs.parts.top.Given as goal
 
-abbrev pub invariant-loop-rest : goal.invariant-loop-rest
-invariant-loop-rest g l =
-    max l.best (top (clique_degree (g.B.Bound.answer l.bound) l.p l.other) l.rest) ≡ top (clique_degree (g.B.Bound.answer l.bound) l.p l.other) l.class
+abbrev pub invariant-loop-i : goal.invariant-loop-i
+invariant-loop-i g l =
+    max l.best (top (clique_degree (g.B.Bound.answer l.bound) l.p l.other) l.i-iterator.rest) ≡ top (clique_degree (g.B.Bound.answer l.bound) l.p l.other) l.class
 
-abbrev pub decreases-loop-rest : goal.decreases-loop-rest
-decreases-loop-rest g l = l.rest
+abbrev pub decreases-loop-i : goal.decreases-loop-i
+decreases-loop-i g l = l.i-iterator.rest
