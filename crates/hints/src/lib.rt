@@ -4,16 +4,26 @@
 ghost use Rattle.std.specs.Prelude.{◌<◌};
 
 use kernels::Kernel;
-use masks::{lowest, size, without};
+use masks::{Members, below, has, lowest, minus, size};
+
+// Four words: a set of the 256 places of a kernel.
+type Row = [u64; 4];
 
 #[derive(Drop)]
 pub struct Hints {
-    // four words for each of the first 64 colours: the places that are joined to one that has it
-    near: [u64; 256],
-    // four words for each place: what stood there before its colour was noted
-    saved: [u64; 1024],
+    // for each of the first 64 colours: the places that are joined to one that has it
+    near: [Row; 64],
+    // for each place: what stood there before its colour was noted
+    saved: [Row; 256],
     // the places without a colour
-    blank: [u64; 4],
+    blank: Row,
+}
+
+// A place, and how keenly it wants a colour.
+#[derive(Clone, Copy)]
+struct Choice {
+    place: usize,
+    score: u32,
 }
 
 // Counts the members of `row`: plane `i` has bit `i` of each count.
@@ -30,8 +40,8 @@ fn add(planes: &mut [u64], row: u64) {
 fn highest(planes: &[u64], members: u64) -> (u64, u64) {
     let mut best = members;
     let mut count = 0u64;
-    for i in (0..planes.len()).rev() {
-        let both = best & planes[i];
+    for plane in planes.iter().rev() {
+        let both = best & *plane;
         count <<= 1;
         if both != 0 {
             best = both;
@@ -45,21 +55,15 @@ fn highest(planes: &[u64], members: u64) -> (u64, u64) {
 fn front(n: usize, w: usize) -> u64
     requires { w < 4 }
 {
-    if n >= 64 * w + 64 {
-        u64::MAX
-    } else if n > 64 * w {
-        (1 << (n - 64 * w)) - 1
-    } else {
-        0
-    }
+    below(n.saturating_sub(64 * w).min(64))
 }
 
 impl Hints {
     // No place has a colour.
     pub fn new(n: usize) -> Hints {
         Hints {
-            near: [0; 256],
-            saved: [0; 1024],
+            near: [[0; 4]; 64],
+            saved: [[0; 4]; 256],
             blank: [front(n, 0), front(n, 1), front(n, 2), front(n, 3)],
         }
     }
@@ -70,11 +74,12 @@ impl Hints {
             return;
         }
         self.blank[c / 64] &= u64::MAX ^ 1 << (c % 64);
-        for w in 0..4 {
-            let row = self.near[4 * (d - 1) + w];
-            self.saved[4 * c + w] = row;
-            self.near[4 * (d - 1) + w] = row | kernel.word(c, w);
+        let mut row = self.near[d - 1];
+        self.saved[c] = row;
+        for (w, word) in row.iter_mut().enumerate() {
+            *word |= kernel.word(c, w);
         }
+        self.near[d - 1] = row;
     }
 
     // Place `c` had the colour `d` last, and loses it.
@@ -83,9 +88,7 @@ impl Hints {
             return;
         }
         self.blank[c / 64] |= 1 << (c % 64);
-        for w in 0..4 {
-            self.near[4 * (d - 1) + w] = self.saved[4 * c + w];
-        }
+        self.near[d - 1] = self.saved[c];
     }
 
     // How many of the first colours are around each place of the word `w`.
@@ -93,19 +96,18 @@ impl Hints {
         requires { w < 4 }
     {
         let mut planes = [0u64; 7];
-        for j in 0..used.min(64) {
-            add(&mut planes, self.near[4 * j + w]);
+        for row in self.near[..used.min(64)].iter() {
+            add(&mut planes, row[w]);
         }
         planes
     }
 
     // The places without a colour that have the most colours around them.
-    fn tied(&self, used: usize) -> [u64; 4] {
+    fn tied(&self, used: usize) -> Row {
         let mut tied = [0u64; 4];
         let mut most = 0u64;
-        for w in 0..4 {
-            let planes = self.tally(w, used);
-            let (count, best) = highest(&planes, self.blank[w]);
+        for (w, blank) in self.blank.iter().enumerate() {
+            let (count, best) = highest(&self.tally(w, used), *blank);
             if count > most {
                 tied = [0; 4];
                 most = count;
@@ -122,10 +124,9 @@ impl Hints {
         requires { (w < 4) × (c < 256) }
     {
         let mut total = 0u32;
-        for j in 0..used.min(64) {
-            if self.near[4 * j + c / 64] >> (c % 64) & 1 == 0 {
-                let left = members & (u64::MAX ^ self.near[4 * j + w]);
-                total = total.saturating_add(size(left));
+        for row in self.near[..used.min(64)].iter() {
+            if !has(row[c / 64], c % 64) {
+                total = total.saturating_add(size(minus(members, row[w])));
             }
         }
         total
@@ -133,15 +134,15 @@ impl Hints {
 
     // How keenly `c` wants a colour: by the colours, up to `k`, that it has left in common with the tied places that are
     // joined to it, and then by its neighbours without a colour.
-    fn score(&self, kernel: &Kernel, tied: &[u64; 4], c: usize, used: usize, k: usize) -> u32
+    fn score(&self, kernel: &Kernel, tied: &Row, c: usize, used: usize, k: usize) -> u32
         requires { c < 256 }
     {
         let unused = k.saturating_sub(used).min(256) as u32;
         let mut total = 0u32;
-        for w in 0..4 {
+        for (w, word) in tied.iter().enumerate() {
             let row = kernel.word(c, w);
             total = total.saturating_add(size(row & self.blank[w]));
-            let joined = row & tied[w];
+            let joined = row & *word;
             if joined != 0 {
                 let fresh = unused.saturating_mul(size(joined));
                 let shared = self.common(joined, w, c, used).saturating_add(fresh);
@@ -151,55 +152,43 @@ impl Hints {
         total
     }
 
-    // Of the tied places of the word `w` the first with the highest score, or 256, and that score.
+    // The first place with the highest score: one of the tied places of the word `w`, or the one that was best so far.
     fn keenest(
         &self,
         kernel: &Kernel,
-        tied: &[u64; 4],
+        tied: &Row,
         w: usize,
         used: usize,
         k: usize,
-    ) -> (usize, u32)
+        so_far: Option<Choice>,
+    ) -> Option<Choice>
         requires { w < 4 }
     {
-        let mut rest = tied[w];
-        let mut place = 256;
-        let mut most = 0;
-        while rest != 0 {
-            let j = lowest(rest);
-            rest = without(rest, j);
-            let score = self.score(kernel, tied, 64 * w + j, used, k);
-            if place == 256 || score > most {
-                place = 64 * w + j;
-                most = score;
+        let mut best = so_far;
+        for j in Members::of(tied[w]) {
+            let place = 64 * w + j;
+            let score = self.score(kernel, tied, place, used, k);
+            if best.is_none_or(|b| score > b.score) {
+                best = Some(Choice { place, score });
             }
         }
-        (place, most)
+        best
     }
 
-    // The first of the places without a colour that have the most colours around them, or 256.
-    pub fn most_taken(&self, used: usize) -> usize {
+    // The first of the places without a colour that have the most colours around them.
+    pub fn most_taken(&self, used: usize) -> Option<usize> {
         let tied = self.tied(used);
-        for w in 0..4 {
-            if tied[w] != 0 {
-                return 64 * w + lowest(tied[w]);
-            }
-        }
-        256
+        let w = tied.iter().position(|word| *word != 0)?;
+        Some(64 * w + lowest(tied[w]))
     }
 
-    // The place without a colour that has the most colours around it, of those the one with the highest score; or 256.
-    pub fn keenest_taken(&self, kernel: &Kernel, used: usize, k: usize) -> usize {
+    // The place without a colour that has the most colours around it, of those the first with the highest score.
+    pub fn keenest_taken(&self, kernel: &Kernel, used: usize, k: usize) -> Option<usize> {
         let tied = self.tied(used);
-        let mut place = 256;
-        let mut most = 0;
+        let mut best = None;
         for w in 0..4 {
-            let (c, score) = self.keenest(kernel, &tied, w, used, k);
-            if c < 256 && (place == 256 || score > most) {
-                place = c;
-                most = score;
-            }
+            best = self.keenest(kernel, &tied, w, used, k, best);
         }
-        place
+        best.map(|b| b.place)
     }
 }

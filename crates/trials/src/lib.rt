@@ -11,7 +11,7 @@ ghost use Rattle.trials.specs.Trials.{ReadyAt, Picked, LeftAt, OpenAt, Placed, C
 use graph::refusal::Refusal;
 use hints::Hints;
 use kernels::Kernel;
-use masks::{below, lowest, meet, minus, with, without};
+use masks::{Members, below, lowest, meet, minus, with, without};
 
 // Of the 64 colours above `base` those of the members, places counted on from `from`.
 fn worn(members: u64, table: &[u16], from: usize, base: usize) -> u64
@@ -19,11 +19,8 @@ fn worn(members: u64, table: &[u16], from: usize, base: usize) -> u64
     requires low { base ≤ 256 }
     ensures { Worn members table.now from base result }
 {
-    let mut rest = members;
     let mut worn = 0u64;
-    while rest != 0 {
-        let v = lowest(rest);
-        rest = without(rest, v);
+    for v in Members::of(members) {
         let d = table[from + v] as usize;
         if base < d && d <= base + 64 {
             worn = with(worn, d - base - 1);
@@ -69,12 +66,7 @@ fn first_blank(kernel: &Kernel, table: &[u16]) -> Option<usize>
     requires { places kernel.now ≤ length table.now }
     ensures { Picked kernel.now table.now result }
 {
-    for v in 0..kernel.count() {
-        if table[v] == 0 {
-            return Some(v);
-        }
-    }
-    None
+    table[..kernel.count()].iter().position(|d| *d == 0)
 }
 
 // A place that has no colour: where the hints are right, one with the fewest colours left.
@@ -82,11 +74,10 @@ fn pick(kernel: &Kernel, hints: &Hints, table: &[u16], used: usize, k: usize) ->
     requires { places kernel.now ≤ length table.now }
     ensures { Picked kernel.now table.now result }
 {
-    let c = hints.keenest_taken(kernel, used, k);
-    if c < kernel.count() && table[c] == 0 {
-        return Some(c);
+    match hints.keenest_taken(kernel, used, k) {
+        Some(c) if c < kernel.count() && table[c] == 0 => Some(c),
+        _ => first_blank(kernel, table),
     }
-    first_blank(kernel, table)
 }
 
 // Colours the places that have no colour, where those that have one have none above `used`.
@@ -143,17 +134,6 @@ fn choose(
     choose(kernel, hints, table, c, base, without(left, j), used, k)
 }
 
-// Copies the first n places.
-fn copy_front(from: &[u16], to: &mut [u16], n: usize)
-    requires { (n ≤ length from.now) × (n ≤ length to.old) }
-    ensures places { (i : ℕ) → i < n → at to.new i ≡ at from.now i }
-    ensures rest { (i : ℕ) → n ≤ i → at to.new i ≡ at to.old i }
-{
-    for i in 0..n {
-        to[i] = from[i];
-    }
-}
-
 /// Whether the kernel has a proper colouring in 1 to `k`, which then stands in the table.
 /// Refused where the table is shorter than the places.
 pub fn colour(kernel: &Kernel, table: &mut [u16], k: usize) -> Result<bool, Refusal>
@@ -168,6 +148,6 @@ pub fn colour(kernel: &Kernel, table: &mut [u16], k: usize) -> Result<bool, Refu
     if !place(kernel, &mut hints, &mut found, 0, k) {
         return Ok(false);
     }
-    copy_front(&found, table, n);
+    table[..n].copy_from_slice(&found[..n]);
     Ok(true)
 }

@@ -6,6 +6,3 @@ use Rattle.two_part.proofs.parts.top.Given as goal
 abbrev pub invariant-loop-i : goal.invariant-loop-i
 invariant-loop-i g l =
     max l.best (top (clique_degree (g.B.Bound.answer l.bound) l.p l.other) l.i-iterator.rest) ≡ top (clique_degree (g.B.Bound.answer l.bound) l.p l.other) l.class
-
-abbrev pub decreases-loop-i : goal.decreases-loop-i
-decreases-loop-i g l = l.i-iterator.rest
