@@ -19,12 +19,12 @@ pub enum Standing {
     Closed,
 }
 
-impl Standing {
-    // The number that stands for the standing.
-    pub fn number(&self) -> u8
-        ensures { result ≡ standing_number self.now }
-    {
-        match self {
+// The number that stands for the standing.
+impl From<Standing> for u8 {
+    ghost from_gives = { λ s n. n ≡ standing_number s };
+
+    fn from(standing: Standing) -> Self {
+        match standing {
             Standing::Loose => 0,
             Standing::Ordered => 1,
             Standing::Climbed => 2,

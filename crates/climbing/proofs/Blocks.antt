@@ -50,11 +50,11 @@ module _ (t : ℕ → Bool) (p found : List ℕ) (n i : ℕ) (pos : 0 < i) (with
 
 -- ---- the members of the block, written rising
 
-members_yes : (t : ℕ → Bool) (c : ℕ) → t c ≡ true → members t (c + 1) ≡ members t c ++ c ∷ []
+pub members_yes : (t : ℕ → Bool) (c : ℕ) → t c ≡ true → members t (c + 1) ≡ members t c ++ c ∷ []
 unfolding members
 members_yes t c y = ap (members t) (add-one c) ∙ ap (λ (b : Bool). members t c ++ cond b (c ∷ []) []) y
 
-members_no : (t : ℕ → Bool) (c : ℕ) → t c ≡ false → members t (c + 1) ≡ members t c
+pub members_no : (t : ℕ → Bool) (c : ℕ) → t c ≡ false → members t (c + 1) ≡ members t c
 unfolding members
 members_no t c z =
     ap (members t) (add-one c) ∙ ap (λ (b : Bool). members t c ++ cond b (c ∷ []) []) z ∙ append-nil (members t c)

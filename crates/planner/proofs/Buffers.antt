@@ -1,5 +1,6 @@
 -- What block, plan and cap leave in lent buffers.
 use Rattle.std.proofs.Common.{◌≡◌, ℕ, ◌<◌, ◌≤◌, true, false, List, length, take, drop, Ok, Err, MatchBool, Result, sym, refl, ap, ◌∙◌, subst, MatchResult}
+use Rattle.std.proofs.Math.Seq.{take-length}
 use Rattle.std.proofs.lemmas.Bool.{false≢true}
 use Rattle.graph.specs.declared.Source.{Ghosts}
 use Rattle.graph.specs.declared.refusal.Refusal.{Refusal}
@@ -43,15 +44,15 @@ plan_others g Closed climbs k col x = x.others
 
 module _ (g : Graph) (x : Point) (p : Progress) (y : Found g x.standing x.climbs x.noes p) where
   -- what the block's places answer
-  block_cases : (before after : List ℕ) (r : Result ℕ Refusal) → MatchResult r (λ n. (n ≡ p.block_len) × (n ≤ length after) × (take n after ≡ take n p.block) × (drop n after ≡ drop n before)) (λ e. (e ≡ ShortBuffer) × (length before < p.block_len) × (after ≡ before)) → BlockAnswer g x before after r
+  block_cases : (before after : List ℕ) (r : Result ℕ Refusal) → MatchResult r (λ n. (n ≡ length p.block.items) × (n ≤ length after) × (take n after ≡ p.block.items) × (drop n after ≡ drop n before)) (λ e. (e ≡ ShortBuffer) × (length before < length p.block.items) × (after ≡ before)) → BlockAnswer g x before after r
   block_cases before after (Ok n) a = record {
     size = n;
     set = y.block.set;
-    block = record { order = _; is_order = y.order; largest = subst (LargestAmong g (last (take p.held p.order) x.climbs) y.block.set) (sym a.0) y.block.largest };
-    cases = (refl, a.1, a.2 ∙ ap (λ (k : ℕ). take k p.block) a.0 ∙ y.block.front, a.3);
+    block = record { order = _; is_order = y.order; largest = subst (LargestAmong g (last p.order.items x.climbs) y.block.set) (sym a.0) y.block.largest };
+    cases = (refl, a.1, a.2 ∙ sym (take-length p.block.items) ∙ y.block.front, a.3);
   }
   block_cases before after (Err e) a = record {
-    size = p.block_len;
+    size = length p.block.items;
     set = y.block.set;
     block = record { order = _; is_order = y.order; largest = y.block.largest };
     cases = a;
@@ -59,7 +60,7 @@ module _ (g : Graph) (x : Point) (p : Progress) (y : Found g x.standing x.climbs
 
   plan_cases : (before after : List Row) (r : Result (Unit {0}) Refusal) → MatchResult r (λ _. (g.size ≤ length after) × (take g.size after ≡ rows (paint p.drives) g.size) × (drop g.size after ≡ drop g.size before)) (λ e. (e ≡ ShortBuffer) × (length before < g.size) × (after ≡ before)) → PlanAnswer g x before after r
   plan_cases before after r a = record {
-    size = p.block_len;
+    size = length p.block.items;
     block = (y.block.set, record { order = _; is_order = y.order; largest = y.block.largest });
     plan = paint p.drives;
     is_plan = subst (λ (k : ℕ). PlanAt g x.standing x.climbs k (paint p.drives)) y.floor y.plan;
@@ -68,7 +69,7 @@ module _ (g : Graph) (x : Point) (p : Progress) (y : Found g x.standing x.climbs
   }
 
 module _ {S B : Type 0} {gs : Ghosts S} (graph : S → Graph) (g : Graph) (h : History) (p : Planner S B gs) (x : Explains graph g h p) where
-  pub blocks : (before after : List ℕ) (r : Result ℕ Refusal) → takes p.progress.standing operation.Block ≡ true → MatchResult r (λ n. (n ≡ p.progress.block_len) × (n ≤ length after) × (take n after ≡ take n p.progress.block) × (drop n after ≡ drop n before)) (λ e. (e ≡ ShortBuffer) × (length before < p.progress.block_len) × (after ≡ before)) → BlockTold (graph_at g (point_at g h)) (point_at g h) before after r
+  pub blocks : (before after : List ℕ) (r : Result ℕ Refusal) → takes p.progress.standing operation.Block ≡ true → MatchResult r (λ n. (n ≡ length p.progress.block.items) × (n ≤ length after) × (take n after ≡ p.progress.block.items) × (drop n after ≡ drop n before)) (λ e. (e ≡ ShortBuffer) × (length before < length p.progress.block.items) × (after ≡ before)) → BlockTold (graph_at g (point_at g h)) (point_at g h) before after r
   blocks before after r t a =
       let e = ap (λ s. takes s operation.Block) (sym x.holds.standing) ∙ t in
       let y = found _ _ (point_at g h).standing e x.holds.numbers in

@@ -1,7 +1,6 @@
 -- What pulling, trying and putting back leave of what a planner has found.
 use Rattle.std.proofs.Common.{◌≡◌, ℕ, zero, suc, ◌+◌, ◌-◌, ◌<◌, ◌≤◌, max, Bool, true, false, cond, not, ◌&&◌, eqb, List, [], ◌∷◌, length, get_or, take, replicate, Some, None, Option, sym, refl, ap, ◌∙◌, subst, inl, inr, arith}
 use mathlib.Core.Path.{fun_ext}
-use Rattle.std.proofs.lemmas.List.{length-take-le}
 use Rattle.std.proofs.lemmas.Bool.{false≢true, eqb-true, eqb-false, cases_lt, cases_Bool, lt-ltb, le-ltb}
 use Rattle.finite.specs.Finite.{count, members, has, nth}
 use Rattle.finite.proofs.Counts.{has_true}
@@ -93,19 +92,22 @@ pub record Kept (p q : Progress) : Type 0 where
   pub degeneracy : q.degeneracy ≡ p.degeneracy
   pub order : q.order ≡ p.order
   pub block : q.block ≡ p.block
-  pub size : q.block_len ≡ p.block_len
+  pub size : (length q.block.items) ≡ (length p.block.items)
 
 module _ (g : Graph) (s t : Standing) (climbs noes more : ℕ) (p q : Progress) (k : Kept p q) (f : Found g s climbs noes p) where
-  same_order : take q.held q.order ≡ take p.held p.order
-  same_order = ap (λ n. take n q.order) k.held ∙ ap (take p.held) k.order
+  same_order : q.order.items ≡ p.order.items
+  same_order = ap (λ v. v.items) k.order
 
-  pub found_to : full s ≡ true → full t ≡ true → among false true false false false false t ≡ false → q.floor ≡ q.block_len + more → ((j : ℕ) → j < q.floor → Colourable g j → ⊥) → PlanAt g t climbs q.floor (paint q.drives) → q.ceiling ≡ used g (paint q.drives) → Found g t climbs more q
+  same_block : q.block.items ≡ p.block.items
+  same_block = ap (λ v. v.items) k.block
+
+  pub found_to : full s ≡ true → full t ≡ true → among false true false false false false t ≡ false → q.floor ≡ length q.block.items + more → ((j : ℕ) → j < q.floor → Colourable g j → ⊥) → PlanAt g t climbs q.floor (paint q.drives) → q.ceiling ≡ used g (paint q.drives) → Found g t climbs more q
   found_to e d c floor below plan ceiling = record {
-    fits = subst (λ n. n ≤ length q.order) (sym k.held) (subst (λ (xs : List ℕ). p.held ≤ length xs) (sym k.order) f.fits);
+    fits = ap length same_order ∙ f.fits ∙ sym k.held;
     order = subst (IsOrder g) (sym same_order) f.order;
-    peak = subst (λ n. IsPeak g (take q.held q.order) n) (sym k.degeneracy) (subst (λ xs. IsPeak g xs p.degeneracy) (sym same_order) f.peak);
+    peak = subst (λ n. IsPeak g q.order.items n) (sym k.degeneracy) (subst (λ xs. IsPeak g xs p.degeneracy) (sym same_order) f.peak);
     sparse = omega (arith, f.sparse, k.degeneracy);
-    block = subst (λ n. BlockIn g (last (take q.held q.order) climbs) q.block n) (sym k.size) (subst (λ (xs : List ℕ). BlockIn g (last (take q.held q.order) climbs) xs p.block_len) (sym k.block) (subst (λ (xs : List ℕ). BlockIn g (last xs climbs) p.block p.block_len) (sym same_order) f.block));
+    block = subst (λ xs. BlockIn g (last xs climbs) q.block.items (length q.block.items)) (sym same_order) (subst (λ xs. BlockIn g (last p.order.items climbs) xs (length xs)) (sym same_block) f.block);
     floor = floor;
     below = below;
     plan = plan;
@@ -115,26 +117,25 @@ module _ (g : Graph) (s t : Standing) (climbs noes more : ℕ) (p q : Progress) 
   }
 
 -- the block's size
-pub block_size : (g : Graph) (s : Standing) (climbs noes : ℕ) (p : Progress) → Found g s climbs noes p → BlockSize g climbs p.block_len
+pub block_size : (g : Graph) (s : Standing) (climbs noes : ℕ) (p : Progress) → Found g s climbs noes p → BlockSize g climbs (length p.block.items)
 block_size g s climbs noes p f =
-    (f.block.set, record { order = take p.held p.order; is_order = f.order; largest = f.block.largest })
+    (f.block.set, record { order = p.order.items; is_order = f.order; largest = f.block.largest })
 
 -- a pull
-pub pull_holds : (g : Graph) (climbs noes n : ℕ) (living after taken : List ℕ) (p q : Progress) → Holds g Climbed climbs noes p → Kept p q → q.climbed ≡ p.climbed → q.floor ≡ p.floor → q.drives ≡ p.drives → q.ceiling ≡ p.ceiling → q.standing ≡ Pulled → CoreIn g p.block_len living after taken q.taken q.taken_len → n ≡ count (alive g.size after) g.size → n ≤ length q.places → take n q.places ≡ members (alive g.size after) g.size → Draws g (take n q.places) q.kernel → Holds g Pulled climbs noes q
-pull_holds g climbs noes n living after taken p q x k c f d u s z m l e w =
+pub pull_holds : (g : Graph) (climbs noes len : ℕ) (living after taken table : List ℕ) (p q : Progress) → Holds g Climbed climbs noes p → Kept p q → q.climbed ≡ p.climbed → q.floor ≡ p.floor → q.drives ≡ p.drives → q.ceiling ≡ p.ceiling → q.standing ≡ Pulled → CoreIn g (length p.block.items) living after taken table len → q.taken.items ≡ take len table → q.places.items ≡ members (alive g.size after) g.size → Draws g q.places.items q.kernel → Holds g Pulled climbs noes q
+pull_holds g climbs noes len living after taken table p q x k c f d u s z t e w =
     let y = x.numbers in
-    let size : places q.kernel ≡ n = w.size ∙ length-take-le n q.places l in
-    let list : take (places q.kernel) q.places ≡ take n q.places = ap (λ i. take i q.places) size in
+    let size = length p.block.items in
     record {
       standing = s;
       held = k.held ∙ x.held;
       climbed = c ∙ x.climbed;
       numbers = found_to g Climbed Pulled climbs noes noes p q k y refl refl refl (f ∙ y.floor ∙ ap (λ i. i + noes) (sym k.size)) (λ j i. y.below j (omega arith)) (subst (λ (xs : List ℕ). FirstPlan g (paint xs)) (sym d) y.plan) (u ∙ y.ceiling ∙ ap (λ (xs : List ℕ). used g (paint xs)) (sym d));
       kernel = λ _. record {
-        core = subst (λ b. CoreOf g b (survivors g (take q.taken_len q.taken))) (sym k.size) (core_of g p.block_len living after taken q.taken q.taken_len z);
-        left = subst (λ b. CoreLeft g b (take q.taken_len q.taken)) (sym k.size) (core_left g p.block_len living after taken q.taken q.taken_len z);
-        lists = subst (Lists (survivors g (take q.taken_len q.taken))) (sym (list ∙ e)) (core_lists g p.block_len living after taken q.taken q.taken_len z);
-        draws = subst (λ xs. Draws g xs q.kernel) (sym list) w;
+        core = subst (λ xs. CoreOf g (length q.block.items) (survivors g xs)) (sym t) (subst (λ b. CoreOf g b (survivors g (take len table))) (sym k.size) (core_of g size living after taken table len z));
+        left = subst (CoreLeft g (length q.block.items)) (sym t) (subst (λ b. CoreLeft g b (take len table)) (sym k.size) (core_left g size living after taken table len z));
+        lists = subst (λ xs. Lists (survivors g xs) q.places.items) (sym t) (subst (Lists (survivors g (take len table))) (sym e) (core_lists g size living after taken table len z));
+        draws = w;
       };
       won = λ y. absurd (false≢true y);
     }
@@ -156,36 +157,36 @@ place_is (x ∷ xs) (suc i) c l e = place_cons x c xs (eqb x c) refl (λ _. plac
 
 -- a try
 module _ (g : Graph) (x : Point) (p : Progress) (y : Holds g Pulled x.climbs x.noes p) where
-  is_kernel : Kernel g x.climbs p.block_len (survivors g (take p.taken_len p.taken))
+  is_kernel : Kernel g x.climbs (length p.block.items) (survivors g p.taken.items)
   is_kernel =
       record { block = block_size g Pulled x.climbs x.noes p y.numbers; core = (y.kernel refl).core }
 
   -- a colouring of the places
-  coloured_from : (f : ℕ → ℕ) → Colours (places p.kernel) (joined p.kernel) p.floor f → ColourableIn g (survivors g (take p.taken_len p.taken)) p.floor
+  coloured_from : (f : ℕ → ℕ) → Colours (places p.kernel) (joined p.kernel) p.floor f → ColourableIn g (survivors g p.taken.items) p.floor
   coloured_from f w =
       let o = y.kernel refl in
-      let xs = take (places p.kernel) p.places in
+      let xs = p.places.items in
       let col : ℕ → ℕ = λ c. f (place xs c) in
       let e : (i : ℕ) → i < length xs → col (get_or xs i 0) ≡ f i = λ i l. (let r = place_is xs i (get_or xs i 0) l refl in ap f (o.lists.once (place xs (get_or xs i 0)) i r.0 l r.1)) in
-      (col, to_graph g (survivors g (take p.taken_len p.taken)) xs (places p.kernel) (joined p.kernel) p.floor o.lists o.draws.size o.draws.joins f col e w)
+      (col, to_graph g (survivors g p.taken.items) xs (places p.kernel) (joined p.kernel) p.floor o.lists o.draws.size o.draws.joins f col e w)
 
   -- none where the places have none
-  uncoloured_from : ((f : ℕ → ℕ) → Colours (places p.kernel) (joined p.kernel) p.floor f → ⊥) → ColourableIn g (survivors g (take p.taken_len p.taken)) p.floor → ⊥
+  uncoloured_from : ((f : ℕ → ℕ) → Colours (places p.kernel) (joined p.kernel) p.floor f → ⊥) → ColourableIn g (survivors g p.taken.items) p.floor → ⊥
   uncoloured_from none w =
       let o = y.kernel refl in
-      let xs = take (places p.kernel) p.places in
-      none (λ i. w.0 (get_or xs i 0)) (from_graph g (survivors g (take p.taken_len p.taken)) xs (places p.kernel) (joined p.kernel) p.floor o.lists o.draws.size o.draws.joins w.0 w.1)
+      let xs = p.places.items in
+      none (λ i. w.0 (get_or xs i 0)) (from_graph g (survivors g p.taken.items) xs (places p.kernel) (joined p.kernel) p.floor o.lists o.draws.size o.draws.joins w.0 w.1)
 
   pub try_yes : (q : Progress) → Kept p q → q.climbed ≡ p.climbed → q.floor ≡ p.floor → q.drives ≡ p.drives → q.ceiling ≡ p.ceiling → q.standing ≡ Won → Out g q → Colours (places p.kernel) (joined p.kernel) p.floor (at q.found) → Colours (places q.kernel) (joined q.kernel) q.floor (at q.found) → TryAnswer g x (Tried true) × Holds g Won x.climbs x.noes q
   try_yes q k c f d u s o w v =
       let n = y.numbers in (
         record {
-          size = p.block_len;
-          kernel = survivors g (take p.taken_len p.taken);
+          size = (length p.block.items);
+          kernel = survivors g p.taken.items;
           is_kernel = is_kernel;
           yes = true;
           answer = refl;
-          test = subst (ColourableIn g (survivors g (take p.taken_len p.taken))) n.floor (coloured_from (at q.found) w);
+          test = subst (ColourableIn g (survivors g p.taken.items)) n.floor (coloured_from (at q.found) w);
         },
         record {
           standing = s;
@@ -203,7 +204,7 @@ module _ (g : Graph) (x : Point) (p : Progress) (y : Holds g Pulled x.climbs x.n
       let n = y.numbers in
       let f = n.plan in
       let top = p.degeneracy + 1 in
-      let e = order_one g f.order (take p.held p.order) f.is_order n.order in
+      let e = order_one g f.order p.order.items f.is_order n.order in
       let peak = subst (λ xs. IsPeak g xs p.degeneracy) (sym e) n.peak in
       let w = plan_coloured g f.order (paint p.drives) top law f.is_order f.plan (plan_few g f.order (paint p.drives) p.degeneracy f.is_order peak f.plan) in
       elim (cases_lt top p.floor) [
@@ -217,15 +218,15 @@ module _ (g : Graph) (x : Point) (p : Progress) (y : Holds g Pulled x.climbs x.n
       let no = uncoloured_from none in
       let below : (j : ℕ) → j < q.floor → Colourable g j → ⊥ = λ j l w. elim (cases_lt j p.floor) [
         | inl i ↦ n.below j i w
-        | inr i ↦ let e : j ≡ p.floor = omega arith in no (kernel_needed g (take p.taken_len p.taken) p.floor (subst (Colourable g) e w))
+        | inr i ↦ let e : j ≡ p.floor = omega arith in no (kernel_needed g p.taken.items p.floor (subst (Colourable g) e w))
       ] in (
         record {
-          size = p.block_len;
-          kernel = survivors g (take p.taken_len p.taken);
+          size = (length p.block.items);
+          kernel = survivors g p.taken.items;
           is_kernel = is_kernel;
           yes = false;
           answer = refl;
-          test = λ w. no (subst (ColourableIn g (survivors g (take p.taken_len p.taken))) (sym n.floor) w);
+          test = λ w. no (subst (ColourableIn g (survivors g p.taken.items)) (sym n.floor) w);
         },
         record {
           standing = s ∙ y.standing;
@@ -284,22 +285,22 @@ back_fits g t room x l a (inr (e, k, (i, m, o))) =
     let h = held_below g (get_or t i 0) (survivors_held g (take i t) (get_or t i 0) (a i m)) in omega arith
 
 -- the new plan
-pub new_plan : (g : Graph) (climbs noes : ℕ) (p : Progress) (start mid drives : List ℕ) → Lawful g → Holds g Won climbs noes p → ((c : ℕ) → paint start c ≡ 0) → Laid (take (places p.kernel) p.places) p.found start mid → BackIn g (take p.taken_len p.taken) mid drives → NewPlan g climbs p.floor drives
+pub new_plan : (g : Graph) (climbs noes : ℕ) (p : Progress) (start mid drives : List ℕ) → Lawful g → Holds g Won climbs noes p → ((c : ℕ) → paint start c ≡ 0) → Laid p.places.items p.found start mid → BackIn g p.taken.items mid drives → NewPlan g climbs p.floor drives
 new_plan g climbs noes p start mid drives law y blank a b =
     let n = y.numbers in
     let o = y.kernel refl in
-    let xs = take (places p.kernel) p.places in
-    let t = take p.taken_len p.taken in
+    let xs = p.places.items in
+    let t = p.taken.items in
     let w = to_graph g (survivors g t) xs (places p.kernel) (joined p.kernel) p.floor o.lists o.draws.size o.draws.joins (at p.found) (paint mid) (a.laid o.lists.once) (y.won refl) in
-    let e : max p.floor p.block_len ≡ p.floor = omega (arith, n.floor) in
-    let coloured = subst (λ i. Coloured g i (paint drives)) e (b.coloured p.block_len p.floor o.left.peeled w) in
+    let e : max p.floor (length p.block.items) ≡ p.floor = omega (arith, n.floor) in
+    let coloured = subst (λ i. Coloured g i (paint drives)) e (b.coloured (length p.block.items) p.floor o.left.peeled w) in
     let uses : used g (paint drives) ≡ p.floor = elim (cases_lt 0 p.floor) [
       | inl l ↦ used_exactly g p.floor (paint drives) coloured (n.below (p.floor - 1) (omega arith))
       | inr l ↦ omega (arith, used_most g p.floor (paint drives) coloured)
     ] in
     record {
       plan = record {
-        size = p.block_len;
+        size = (length p.block.items);
         block = block_size g Won climbs noes p n;
         taken = t;
         left = o.left;

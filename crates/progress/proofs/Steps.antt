@@ -1,6 +1,7 @@
 -- What each step leaves of what a planner has found.
-use Rattle.std.proofs.Common.{◌≡◌, ℕ, ◌+◌, ◌<◌, ◌≤◌, Bool, true, false, cond, eqb, List, length, take, sym, refl, ap, ◌∙◌, subst, inl, inr, arith, eq-eqb}
-use Rattle.std.proofs.lemmas.List.{length-take-le}
+use Rattle.std.proofs.Common.{◌≡◌, ℕ, ◌+◌, ◌<◌, ◌≤◌, Bool, true, false, cond, eqb, List, [], length, take, sym, refl, ap, ◌∙◌, subst, inl, inr, arith, eq-eqb}
+use Rattle.std.proofs.Math.Seq.{take-length}
+use Rattle.std.proofs.lemmas.List.{length-take-le, take-take}
 use Rattle.std.proofs.lemmas.Bool.{false≢true, eqb-true, eqb-false}
 use Rattle.graph.specs.Graph.{Graph, vertices}
 use Rattle.graph.specs.Colourings.{Colourable, used}
@@ -39,7 +40,7 @@ below_block g s block b x k l y =
     let v = clique_used g x.set b y.0 (record { clique = x.largest.clique; many = x.largest.many }) (coloured_proper g k y.0 y.1) in
     absurd (omega arith)
 
-pub unfound : (g : Graph) (p : Progress) → p.standing ≡ Loose → p.held ≡ vertices g → p.climbed ≡ 0 → p.degeneracy ≡ 0 → p.block_len ≡ 0 → p.floor ≡ 0 → p.ceiling ≡ p.held → Holds g Loose 0 0 p
+pub unfound : (g : Graph) (p : Progress) → p.standing ≡ Loose → p.held ≡ vertices g → p.climbed ≡ 0 → p.degeneracy ≡ 0 → (length p.block.items) ≡ 0 → p.floor ≡ 0 → p.ceiling ≡ p.held → Holds g Loose 0 0 p
 unfound g p s h c d b f e = record {
   standing = s;
   held = h;
@@ -53,12 +54,12 @@ unfound g p s h c d b f e = record {
 pub record Climbing (g : Graph) (climbs noes : ℕ) (p : Progress) : Type 0 where
   pub held : p.held ≡ vertices g
   pub climbed : p.climbed ≡ climbs
-  pub fits : p.held ≤ length p.order
-  pub order : IsOrder g (take p.held p.order)
-  pub peak : IsPeak g (take p.held p.order) p.degeneracy
+  pub fits : length p.order.items ≡ p.held
+  pub order : IsOrder g p.order.items
+  pub peak : IsPeak g p.order.items p.degeneracy
   pub sparse : p.degeneracy ≤ 63
-  pub block : BlockIn g (last (take p.held p.order) climbs) p.block p.block_len
-  pub floor : p.floor ≡ p.block_len + noes
+  pub block : BlockIn g (last p.order.items climbs) p.block.items (length p.block.items)
+  pub floor : p.floor ≡ (length p.block.items) + noes
   pub below : (k : ℕ) → k < p.floor → Colourable g k → ⊥
   pub plan : FirstPlan g (paint p.drives)
   pub ceiling : p.ceiling ≡ used g (paint p.drives)
@@ -124,53 +125,60 @@ plan_dense g room painted x l m (inl (e, inl k)) = absurd (omega arith)
 plan_dense g room painted x l m (inl (e, inr k)) = absurd (omega arith)
 plan_dense g room painted x l m (inr (e, a, b, d)) = (e, d)
 
--- after an order
-pub order_holds : (g : Graph) (before painted : List ℕ) (p : Progress) → PlannedIn g before p.order painted p.drives p.held p.degeneracy p.ceiling → p.degeneracy ≤ 63 → p.climbed ≡ 0 → p.block_len ≡ 0 → p.floor ≡ 0 → p.standing ≡ cond (eqb p.held 0) Climbed Ordered → Holds g (climbed_to g 0) 0 0 p
-order_holds g before painted p x d c b f s =
+-- after an order, which stands at the front of a table
+pub order_holds : (g : Graph) (before table painted : List ℕ) (p : Progress) → PlannedIn g before table painted p.drives p.held p.degeneracy p.ceiling → p.degeneracy ≤ 63 → p.order.items ≡ take p.held table → p.climbed ≡ 0 → p.block.items ≡ [] → p.floor ≡ 0 → p.standing ≡ cond (eqb p.held 0) Climbed Ordered → Holds g (climbed_to g 0) 0 0 p
+order_holds g before table painted p x d o c b f s =
     climbing_holds g 0 0 p (record {
       held = x.ordered.len_is;
       climbed = c;
-      fits = x.ordered.fits;
-      order = x.ordered.order;
-      peak = x.ordered.peak;
+      fits = ap length o ∙ length-take-le p.held table x.ordered.fits;
+      order = subst (IsOrder g) (sym o) x.ordered.order;
+      peak = subst (λ xs. IsPeak g xs p.degeneracy) (sym o) x.ordered.peak;
       sparse = d;
-      block = subst (λ n. BlockIn g (last (take p.held p.order) 0) p.block n) (sym b) (climb_start g (take p.held p.order) p.block);
-      floor = omega arith;
+      block = subst (λ n. BlockIn g (last p.order.items 0) p.block.items n) (sym (ap length b)) (climb_start g p.order.items p.block.items);
+      floor = omega (arith, ap length b);
       below = λ k l _. absurd (omega arith);
-      plan = record { order = take p.held p.order; is_order = x.ordered.order; plan = x.plan };
+      plan = record { order = take p.held table; is_order = x.ordered.order; plan = x.plan };
       ceiling = sym x.drives_are;
     }) p.held s (omega (arith, x.ordered.len_is)) refl
 
--- after a climb: q is p with the block and the counts of one climb more
-pub climb_holds : (g : Graph) (climbs noes at : ℕ) (p q : Progress) → Holds g Ordered climbs noes p → at + (climbs + 1) ≡ p.held → Climbs g (take p.held p.order) at p.block q.block p.block_len q.block_len → q.held ≡ p.held → q.degeneracy ≡ p.degeneracy → q.order ≡ p.order → q.drives ≡ p.drives → q.ceiling ≡ p.ceiling → q.climbed ≡ climbs + 1 → q.floor ≡ q.block_len → q.standing ≡ cond (eqb at 0) Climbed Ordered → Holds g (climbed_to g (climbs + 1)) (climbs + 1) noes q
-climb_holds g climbs noes at p q x e y h d o w u c f s =
+-- the block is in a table where it stands at its front
+pub block_table : (g : Graph) (s : ℕ → Bool) (block table : List ℕ) (n : ℕ) → take n table ≡ take n block → BlockIn g s block n → BlockIn g s table n
+block_table g s block table n e x =
+    record { set = x.set; largest = x.largest; front = e ∙ x.front }
+
+-- after a climb, which makes of the table `before` the table `after`: q is p with the block and the counts of one climb more
+pub climb_holds : (g : Graph) (climbs noes at b : ℕ) (before after : List ℕ) (p q : Progress) → Holds g Ordered climbs noes p → at + (climbs + 1) ≡ p.held → Climbs g p.order.items at before after (length p.block.items) b → take (length p.block.items) before ≡ p.block.items → length q.block.items ≡ b → q.block.items ≡ take b after → q.held ≡ p.held → q.degeneracy ≡ p.degeneracy → q.order ≡ p.order → q.drives ≡ p.drives → q.ceiling ≡ p.ceiling → q.climbed ≡ climbs + 1 → q.floor ≡ b → q.standing ≡ cond (eqb at 0) Climbed Ordered → Holds g (climbed_to g (climbs + 1)) (climbs + 1) noes q
+climb_holds g climbs noes at b before after p q x e y v l t h d o w u c f s =
     let n = x.numbers in
     let z = (n.climbing refl).1 in
-    let order = take p.held p.order in
-    let same : take q.held q.order ≡ order = ap (λ k. take k q.order) h ∙ ap (take p.held) o in
-    let size = length-take-le p.held p.order n.fits in
-    let block = y.step climbs (order_once g order n.order) (omega arith) n.block in
+    let size = length p.block.items in
+    let same : q.order.items ≡ p.order.items = ap (λ k. k.items) o in
+    let old = block_table g (last p.order.items climbs) p.block.items before size (v ∙ sym (take-length p.block.items)) n.block in
+    let new = y.step climbs (order_once g p.order.items n.order) (omega (arith, n.fits)) old in
+    let front : take b q.block.items ≡ take b after = ap (take b) t ∙ take-take b b after (omega arith) in
+    let block = block_table g (last p.order.items (climbs + 1)) after q.block.items b front new in
     climbing_holds g (climbs + 1) noes q (record {
       held = h ∙ x.held;
       climbed = c;
-      fits = subst (λ k. k ≤ length q.order) (sym h) (subst (λ (xs : List ℕ). p.held ≤ length xs) (sym o) n.fits);
+      fits = ap length same ∙ n.fits ∙ sym h;
       order = subst (IsOrder g) (sym same) n.order;
-      peak = subst (λ k. IsPeak g (take q.held q.order) k) (sym d) (subst (λ xs. IsPeak g xs p.degeneracy) (sym same) n.peak);
+      peak = subst (λ k. IsPeak g q.order.items k) (sym d) (subst (λ xs. IsPeak g xs p.degeneracy) (sym same) n.peak);
       sparse = omega (arith, n.sparse);
-      block = subst (λ xs. BlockIn g (last xs (climbs + 1)) q.block q.block_len) (sym same) block;
+      block = subst (λ xs. BlockIn g (last xs (climbs + 1)) q.block.items (length q.block.items)) (sym same) (subst (BlockIn g (last p.order.items (climbs + 1)) q.block.items) (sym l) block);
       floor = omega arith;
-      below = λ k l. below_block g (last order (climbs + 1)) q.block q.block_len block k (omega arith);
+      below = λ k i. below_block g (last p.order.items (climbs + 1)) q.block.items b block k (omega arith);
       plan = subst (λ (xs : List ℕ). FirstPlan g (paint xs)) (sym w) n.plan;
       ceiling = u ∙ n.ceiling ∙ ap (λ (xs : List ℕ). used g (paint xs)) (sym w);
     }) at s (omega (arith, x.held)) z
 
 -- the numbers of a report
-module _ (g : Graph) (p : Progress) (r : Report) (d : r.degeneracy ≡ p.degeneracy) (c : r.climbed ≡ p.climbed) (b : r.block ≡ p.block_len) (f : r.floor ≡ p.floor) (u : r.ceiling ≡ p.ceiling) where
+module _ (g : Graph) (p : Progress) (r : Report) (d : r.degeneracy ≡ p.degeneracy) (c : r.climbed ≡ p.climbed) (b : r.block ≡ (length p.block.items)) (f : r.floor ≡ p.floor) (u : r.ceiling ≡ p.ceiling) where
   ordered_numbers : (x : Point) → p.climbed ≡ x.climbs → Found g x.standing x.climbs x.noes p → r.proved ≡ cond (eqb p.floor p.ceiling) 1 0 → OrderedNumbers g x r
   ordered_numbers x e n v = record {
-    degeneracy = subst (IsDegeneracy g) (sym d) (peak_degeneracy g (take p.held p.order) p.degeneracy n.order n.peak);
+    degeneracy = subst (IsDegeneracy g) (sym d) (peak_degeneracy g p.order.items p.degeneracy n.order n.peak);
     climbed = c ∙ e;
-    block = subst (BlockSize g x.climbs) (sym b) (n.block.set, record { order = take p.held p.order; is_order = n.order; largest = n.block.largest });
+    block = subst (BlockSize g x.climbs) (sym b) (n.block.set, record { order = p.order.items; is_order = n.order; largest = n.block.largest });
     floor = f ∙ n.floor ∙ ap (λ k. k + x.noes) (sym b);
     plan = paint p.drives;
     is_plan = subst (λ k. PlanAt g x.standing x.climbs k (paint p.drives)) (sym f) n.plan;

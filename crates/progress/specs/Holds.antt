@@ -1,5 +1,5 @@
 -- What a planner has found, over the graph that it holds.
-use Rattle.std.specs.Prelude.{◌≡◌, ℕ, ◌+◌, ◌<◌, ◌≤◌, true, false, List, length, take, MatchBool, slice_index}
+use Rattle.std.specs.Prelude.{◌≡◌, ℕ, ◌+◌, ◌<◌, ◌≤◌, true, false, List, MatchBool, slice_index}
 use Rattle.graph.specs.Graph.{Graph, vertices}
 use Rattle.graph.specs.Colourings.{Colourable, used}
 use Rattle.graph.specs.Degeneracy.{CoreOf}
@@ -8,6 +8,7 @@ use Rattle.climbing.specs.Climbs.{BlockIn, last}
 use Rattle.placings.specs.Colours.{Colours, at}
 use Rattle.kernels.specs.Kernels.{Draws, places, joined}
 use Rattle.peels.specs.Peels.{CoreLeft, Lists}
+use Rattle.arrayvec.specs.ArrayVec.{array_vec_len}
 use Rattle.calls.specs.declared.standing.Standing.{Standing}
 use Rattle.calls.specs.declared.call.Report.{Report}
 use Rattle.calls.specs.Table.{loose, full, out, among}
@@ -25,18 +26,18 @@ pub record Unfound (climbs noes : ℕ) (p : Progress) : Type 0 where
   pub no_climbs : climbs ≡ 0
   pub no_noes : noes ≡ 0
   pub degeneracy : p.degeneracy ≡ 0
-  pub block : p.block_len ≡ 0
+  pub block : array_vec_len p.block ≡ 0
   pub floor : p.floor ≡ 0
   pub ceiling : p.ceiling ≡ p.held
 
 -- the order, the block after so many climbs, the floor after so many noes, and the plan
 pub record Found (g : Graph) (s : Standing) (climbs noes : ℕ) (p : Progress) : Type 0 where
-  pub fits : p.held ≤ length p.order
-  pub order : IsOrder g (take p.held p.order)
-  pub peak : IsPeak g (take p.held p.order) p.degeneracy
+  pub fits : array_vec_len p.order ≡ p.held
+  pub order : IsOrder g p.order.items
+  pub peak : IsPeak g p.order.items p.degeneracy
   pub sparse : p.degeneracy ≤ 63
-  pub block : BlockIn g (last (take p.held p.order) climbs) p.block p.block_len
-  pub floor : p.floor ≡ p.block_len + noes
+  pub block : BlockIn g (last p.order.items climbs) p.block.items (array_vec_len p.block)
+  pub floor : p.floor ≡ array_vec_len p.block + noes
   pub below : (k : ℕ) → k < p.floor → Colourable g k → ⊥
   pub plan : PlanAt g s climbs p.floor (paint p.drives)
   pub ceiling : p.ceiling ≡ used g (paint p.drives)
@@ -45,10 +46,10 @@ pub record Found (g : Graph) (s : Standing) (climbs noes : ℕ) (p : Progress) :
 
 -- the kernel, and those that were taken out
 pub record Out (g : Graph) (p : Progress) : Type 0 where
-  pub core : CoreOf g p.block_len (survivors g (take p.taken_len p.taken))
-  pub left : CoreLeft g p.block_len (take p.taken_len p.taken)
-  pub lists : Lists (survivors g (take p.taken_len p.taken)) (take (places p.kernel) p.places)
-  pub draws : Draws g (take (places p.kernel) p.places) p.kernel
+  pub core : CoreOf g (array_vec_len p.block) (survivors g p.taken.items)
+  pub left : CoreLeft g (array_vec_len p.block) p.taken.items
+  pub lists : Lists (survivors g p.taken.items) p.places.items
+  pub draws : Draws g p.places.items p.kernel
 
 -- the planner stands so over the graph, so many climbs after the order, and so many noes
 pub record Holds (g : Graph) (s : Standing) (climbs noes : ℕ) (p : Progress) : Type 0 where

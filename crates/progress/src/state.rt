@@ -1,10 +1,12 @@
 ghost use Rattle.std.specs.Prelude.{◌≤◌};
 
+use arrayvec::ArrayVec;
 use calls::standing::Standing;
 use kernels::Kernel;
 
 mod climbs;
 mod closing;
+mod fronts;
 mod opening;
 mod ordering;
 mod pulling;
@@ -16,27 +18,23 @@ mod writes;
 #[derive(Drop)]
 pub struct Progress {
     standing: Standing,
-    // how many vertices are held: the order has as many places
+    // how many vertices are held
     held: usize,
     degeneracy: usize,
-    order: [u16; 1024],
+    order: ArrayVec<u16, 1024>,
     climbed: usize,
-    block: [u16; 64],
-    block_len: usize,
+    block: ArrayVec<u16, 64>,
     floor: usize,
     // the drive of each number, 0 where it is not held
     drives: [u16; 1024],
     ceiling: usize,
     kernel: Kernel,
     // the vertex at each place of the kernel
-    places: [u16; 256],
+    places: ArrayVec<u16, 256>,
     // those that were taken out, in their order
-    taken: [u16; 1024],
-    taken_len: usize,
+    taken: ArrayVec<u16, 1024>,
     // the drive found for each place of the kernel
     found: [u16; 256],
     ghost few: { held ≤ 1024 },
     ghost climbs: { climbed ≤ held },
-    ghost small: { block_len ≤ 64 },
-    ghost out: { taken_len ≤ 1024 },
 }

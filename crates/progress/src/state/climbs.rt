@@ -5,6 +5,7 @@ ghost use Rattle.graph.specs.Graph.{vertices};
 ghost use Rattle.progress.specs.Holds.{Holds};
 
 use super::Progress;
+use super::fronts::front;
 use super::opening::standing_with;
 use bounds::Bound;
 use climb::climb_step;
@@ -22,11 +23,11 @@ impl Progress {
             return Err(Refusal::OutOfTurn);
         }
         let at = held - climbed - 1;
-        let len = self.block_len;
-        let mut block = self.block;
-        let new = climb_step(source, bound, &self.order[0..held], at, &mut block, len)?;
-        self.block = block;
-        self.block_len = new;
+        let len = self.block.len();
+        let mut table = [0u16; 64];
+        table[..len].copy_from_slice(self.block.as_slice());
+        let new = climb_step(source, bound, self.order.as_slice(), at, &mut table, len)?;
+        self.block = front(table, new);
         self.floor = new;
         self.climbed = climbed + 1;
         self.standing = standing_with(at);

@@ -14,11 +14,9 @@ impl Progress {
     fn new_plan<S: Listed>(&self, source: &S) -> Result<[u16; 1024], Refusal>
         ensures { (climbs noes : ℕ) → Holds (S.Source.graph source.now) Won climbs noes self.now → MatchResult result (λ drives. NewPlan (S.Source.graph source.now) climbs self.now.floor drives) (λ _. ⊥) }
     {
-        let count = self.kernel.count();
-        let len = self.taken_len;
         let mut drives = [0u16; 1024];
-        lay(&self.places[0..count], &self.found, &mut drives)?;
-        put_back(source, &self.taken[0..len], &mut drives)?;
+        lay(self.places.as_slice(), &self.found, &mut drives)?;
+        put_back(source, self.taken.as_slice(), &mut drives)?;
         Ok(drives)
     }
 

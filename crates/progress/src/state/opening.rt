@@ -3,6 +3,7 @@ ghost use Rattle.progress.specs.Holds.{Holds};
 ghost use Rattle.std.specs.Prelude.{◌≡◌, if◌then◌else◌, nat_eq};
 
 use super::Progress;
+use arrayvec::ArrayVec;
 use calls::standing::Standing;
 use graph::Source;
 use kernels::Kernel;
@@ -29,17 +30,15 @@ impl Progress {
             standing: Standing::Loose,
             held,
             degeneracy: 0,
-            order: [0; 1024],
+            order: ArrayVec::new(),
             climbed: 0,
-            block: [0; 64],
-            block_len: 0,
+            block: ArrayVec::new(),
             floor: 0,
             drives: [0; 1024],
             ceiling: held,
             kernel: Kernel::empty(),
-            places: [0; 256],
-            taken: [0; 1024],
-            taken_len: 0,
+            places: ArrayVec::new(),
+            taken: ArrayVec::new(),
             found: [0; 256],
         }
     }
@@ -53,7 +52,7 @@ impl Progress {
         self.held = held;
         self.standing = Standing::Loose;
         self.degeneracy = 0;
-        self.block_len = 0;
+        self.block.clear();
         self.floor = 0;
         self.ceiling = held;
     }

@@ -6,6 +6,7 @@ ghost use Rattle.progress.specs.Holds.{Holds};
 ghost use Rattle.std.specs.Prelude.{◌≡◌, MatchResult};
 
 use super::Progress;
+use super::fronts::front;
 use super::opening::standing_with;
 use graph::refusal::Refusal;
 use graph::{Listed, Source};
@@ -16,15 +17,15 @@ impl Progress {
     pub fn order<S: Listed>(&mut self, source: &S) -> Result<(), Refusal>
         ensures { MatchResult result (λ _. Holds (S.Source.graph source.now) (climbed_to (S.Source.graph source.now) 0) 0 0 self.new × SparseEnough (S.Source.graph source.now)) (λ x. (x ≡ TooDense) × Dense (S.Source.graph source.now) × (self.new ≡ self.old)) }
     {
-        let mut order = self.order;
+        let mut order = [0u16; 1024];
         let mut drives = self.drives;
         let planned = plan(source, &mut order, &mut drives)?;
-        self.order = order;
+        self.order = front(order, planned.len);
         self.drives = drives;
         self.climbed = 0;
         self.held = planned.len;
         self.degeneracy = planned.degeneracy;
-        self.block_len = 0;
+        self.block.clear();
         self.floor = 0;
         self.ceiling = planned.drives;
         self.standing = standing_with(planned.len);

@@ -7,28 +7,26 @@ ghost use Rattle.progress.specs.Holds.{Holds};
 ghost use Rattle.supports.specs.Peel.{alive};
 
 use super::Progress;
+use super::fronts::front;
+use arrayvec::ArrayVec;
 use calls::standing::Standing;
 use cores::core;
 use graph::refusal::Refusal;
 use graph::{Listed, Source};
 
-// Lists those of the first n numbers that live, rising, and says how many: `None` if they are more than the places.
-fn list_living(living: &[u8], n: usize, places: &mut [u16]) -> Option<usize>
+// Those of the first n numbers that live, rising: `None` if they are more than 256.
+fn list_living(living: &[u8], n: usize) -> Option<ArrayVec<u16, 256>>
     requires lives { n ≤ length living.now }
     requires few { n ≤ 1024 }
-    ensures { MatchOption result (length places.old < count (alive n living.now) n) (λ k. (k ≡ count (alive n living.now) n) × (k ≤ length places.new) × (take k places.new ≡ members (alive n living.now) n)) }
+    ensures { MatchOption result (256 < count (alive n living.now) n) (λ v. v.items ≡ members (alive n living.now) n) }
 {
-    let mut len = 0;
-    for c in 0..n {
-        if living[c] == 1 {
-            if len >= places.len() {
-                return None;
-            }
-            places[len] = c as u16;
-            len += 1;
+    let mut places = ArrayVec::new();
+    for (c, lives) in living[..n].iter().enumerate() {
+        if *lives == 1 {
+            places.try_push(c as u16).ok()?;
         }
     }
-    Some(len)
+    Some(places)
 }
 
 impl Progress {
@@ -39,15 +37,11 @@ impl Progress {
     {
         let mut living = [0u8; 1024];
         let mut taken = [0u16; 1024];
-        let mut places = [0u16; 256];
-        let len = core(source, self.block_len, &mut living, &mut taken)?;
-        let Some(count) = list_living(&living, source.size(), &mut places) else {
-            return Err(Refusal::TooWide);
-        };
-        self.kernel.draw(source, &places[0..count])?;
+        let len = core(source, self.block.len(), &mut living, &mut taken)?;
+        let places = list_living(&living, source.size()).ok_or(Refusal::TooWide)?;
+        self.kernel.draw(source, places.as_slice())?;
         self.places = places;
-        self.taken = taken;
-        self.taken_len = len;
+        self.taken = front(taken, len);
         self.standing = Standing::Pulled;
         Ok(())
     }

@@ -30,11 +30,11 @@ impl Progress {
         ensures { ToldRight self.now result }
     {
         Report {
-            standing: self.standing.number(),
+            standing: u8::from(self.standing),
             held: self.held,
             degeneracy: self.degeneracy,
             climbed: self.climbed,
-            block: self.block_len,
+            block: self.block.len(),
             floor: self.floor,
             ceiling: self.ceiling,
             proved: self.proved(),

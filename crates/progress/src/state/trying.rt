@@ -16,9 +16,7 @@ impl Progress {
         ensures { (g : Graph) (x : Point) → Lawful g → Holds g Pulled x.climbs x.noes self.old → TryAnswer g x (Tried result) × Holds g (if result then Won else Pulled) x.climbs (if result then x.noes else x.noes + 1) self.new }
     {
         let mut found = self.found;
-        let Ok(won) = colour(&self.kernel, &mut found, self.floor) else {
-            return false;
-        };
+        let won = colour(&self.kernel, &mut found, self.floor).unwrap();
         if won {
             self.found = found;
             self.standing = Standing::Won;

@@ -1,4 +1,5 @@
 ghost use Rattle.std.specs.Prelude.{◌≡◌, ◌<◌, ◌≤◌, length, take, drop, MatchResult};
+ghost use Rattle.arrayvec.specs.ArrayVec.{array_vec_len};
 ghost use Rattle.calls.specs.Buffers.{rows as rows_of_lem};
 ghost use Rattle.graph.specs.declared.refusal.Refusal.TheVariants.{ShortBuffer};
 ghost use Rattle.progress.specs.Holds.{paint};
@@ -11,13 +12,13 @@ use graph::refusal::Refusal;
 impl Progress {
     /// Writes the block to the front of the buffer, and answers how many they are. Refuses a buffer that is too short.
     pub fn write_block(&self, out: &mut [u16]) -> Result<usize, Refusal>
-        ensures { MatchResult result (λ n. (n ≡ self.now.block_len) × (n ≤ length out.new) × (take n out.new ≡ take n self.now.block) × (drop n out.new ≡ drop n out.old)) (λ e. (e ≡ ShortBuffer) × (length out.old < self.now.block_len) × (out.new ≡ out.old)) }
+        ensures { MatchResult result (λ n. (n ≡ array_vec_len self.now.block) × (n ≤ length out.new) × (take n out.new ≡ self.now.block.items) × (drop n out.new ≡ drop n out.old)) (λ e. (e ≡ ShortBuffer) × (length out.old < array_vec_len self.now.block) × (out.new ≡ out.old)) }
     {
-        let n = self.block_len;
+        let n = self.block.len();
         if out.len() < n {
             return Err(Refusal::ShortBuffer);
         }
-        out[0..n].copy_from_slice(&self.block[0..n]);
+        out[..n].copy_from_slice(self.block.as_slice());
         Ok(n)
     }
 
@@ -29,8 +30,8 @@ impl Progress {
         if rows.len() < n {
             return Err(Refusal::ShortBuffer);
         }
-        for c in 0..n {
-            rows[c] = Row {
+        for (c, row) in rows[..n].iter_mut().enumerate() {
+            *row = Row {
                 cartridge: c as u16,
                 drive: self.drives[c],
             };

@@ -1,5 +1,4 @@
-use Rattle.std.proofs.Common.{◌≡◌, ℕ, ◌-◌, length, take, replicate, refl, ap, subst, arith}
-use Rattle.kernels.specs.Kernels.{places}
+use Rattle.std.proofs.Common.{length, replicate, refl, subst, arith}
 use Rattle.putback.specs.Backs.{BackIn, BackRefused, Laid}
 use Rattle.progress.proofs.Kernels.{new_plan, blank, back_fits}
 use Rattle.progress.proofs.state.Progress.new_plan.Goals as goal
@@ -9,17 +8,13 @@ returns-in_err-put_back g c climbs noes y =
     let G = g.S.Source.graph c.args.source.now in
     let p = c.args.self.now in
     let law = g.met.S.Source.lawful c.args.source.now in
-    let f : take (p.taken_len - 0) p.taken ≡ take p.taken_len p.taken = ap (λ (k : ℕ). take k p.taken) (omega arith) in
-    let r = subst (λ xs. BackRefused G.size xs (length c.lay.new.colours) c.in_err-put_back.field-0.0) f c.in_err-put_back.ensures.0 in
-    absurd (back_fits G (take p.taken_len p.taken) (length c.lay.new.colours) _ (omega (arith, law.small, c.lay.auto.colours)) (y.kernel refl).left.peeled.taken r)
+    let r = subst (λ xs. BackRefused G.size xs (length c.lay.new.colours) c.in_err-put_back.field-0.0) c.as_slice-2.ensures.value c.in_err-put_back.ensures.0 in
+    absurd (back_fits G p.taken.items (length c.lay.new.colours) _ (omega (arith, law.small, c.lay.auto.colours)) (y.kernel refl).left.peeled.taken r)
 
 pub returns : goal.returns
 returns g c climbs noes y =
     let G = g.S.Source.graph c.args.source.now in
     let p = c.args.self.now in
-    let n = c.count-count.result in
-    let e : take (n - 0) p.places ≡ take (places p.kernel) p.places = ap (λ (k : ℕ). take k p.places) (omega (arith, c.count-count.ensures.value)) in
-    let f : take (p.taken_len - 0) p.taken ≡ take p.taken_len p.taken = ap (λ (k : ℕ). take k p.taken) (omega arith) in
-    let a = subst (λ xs. Laid xs p.found (replicate 1024 0) c.lay.new.colours) e c.in_ok-lay.ensures in
-    let b = subst (λ xs. BackIn G xs c.lay.new.colours c.put_back.new.colours) f c.in_ok-put_back.ensures in
+    let a = subst (λ xs. Laid xs p.found (replicate 1024 0) c.lay.new.colours) c.as_slice.ensures.value c.in_ok-lay.ensures in
+    let b = subst (λ xs. BackIn G xs c.lay.new.colours c.put_back.new.colours) c.as_slice-2.ensures.value c.in_ok-put_back.ensures in
     new_plan G climbs noes p (replicate 1024 0) c.lay.new.colours c.put_back.new.colours (g.met.S.Source.lawful c.args.source.now) y (blank 1024) a b

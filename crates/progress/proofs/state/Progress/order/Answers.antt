@@ -16,4 +16,4 @@ returns-in_err-planned g c =
 pub returns : goal.returns
 returns g c =
     let x = c.in_ok-planned.ensures in
-    (order_holds (g.S.Source.graph c.args.source.now) c.args.self.now.order c.args.self.now.drives _ x.0 x.1 refl refl refl c.standing_with-self.ensures, record { number = _; degeneracy = x.0.ordered.degeneracy; few = x.1 })
+    (order_holds (g.S.Source.graph c.args.source.now) _ c.plan.new.order c.args.self.now.drives _ x.0 x.1 c.front-self.ensures refl c.clear.ensures refl c.standing_with-self.ensures, record { number = _; degeneracy = x.0.ordered.degeneracy; few = x.1 })

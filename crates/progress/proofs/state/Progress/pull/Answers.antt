@@ -1,6 +1,8 @@
-use Rattle.std.proofs.Common.{◌≡◌, ℕ, ◌-◌, ◌<◌, ◌≤◌, length, take, refl, ap, subst, inl, inr, arith}
-use Rattle.finite.specs.Finite.{count, members}
+use Rattle.std.proofs.Common.{◌≡◌, ℕ, ◌≤◌, List, length, replicate, refl, ap, subst, inr, arith, rules}
+use Rattle.finite.specs.Finite.{members}
+use Rattle.finite.proofs.Members.{length_members}
 use Rattle.supports.specs.Peel.{alive}
+use Rattle.cores.specs.Cores.{CoreIn}
 use Rattle.kernels.specs.Kernels.{Draws}
 use Rattle.progress.proofs.Kernels.{pull_holds, block_size}
 use Rattle.progress.proofs.state.Progress.pull.Goals as goal
@@ -9,34 +11,18 @@ pub returns : goal.returns
 returns g c x y =
     let G = g.S.Source.graph c.args.source.now in
     let p = c.args.self.now in
-    let n = c.in-Some.count in
-    let z = c.in_ok-len.ensures in
-    let s = c.size.ensures in
     let after = c.core.new.living in
-    let found = subst (λ m. (n ≡ count (alive m after) m) × (n ≤ length c.list_living.new.places) × (take n c.list_living.new.places ≡ members (alive m after) m)) s c.in-Some.ensures in
-    let e : take (n - 0) c.list_living.new.places ≡ take n c.list_living.new.places = ap (λ (k : ℕ). take k c.list_living.new.places) (omega arith) in
-    let w = subst (λ xs. Draws G xs c.draw.new.self) e c.in_ok-draw.ensures.1 in (
+    let z = subst (λ (k : ℕ). CoreIn G k (replicate 1024 0) after (replicate 1024 0) c.core.new.taken c.in_ok-len.len) c.len.ensures.value c.in_ok-len.ensures in
+    let n = c.size.ensures in
+    let m : c.in_ok-places.places.items ≡ members (alive c.size.result after) c.size.result = search rules in
+    let found = subst (λ (k : ℕ). c.in_ok-places.places.items ≡ members (alive k after) k) n m in
+    let w = subst (λ xs. Draws G xs c.draw.new.self) c.as_slice.ensures.value c.in_ok-draw.ensures.1 in
+    let few : length c.in_ok-places.places.items ≤ 256 = omega (arith, c.as_slice.ensures.fits, ap (λ (xs : List ℕ). length xs) c.as_slice.ensures.value) in (
       record {
-        size = p.block_len;
+        size = length p.block.items;
         kernel = alive G.size after;
         is_kernel = record { block = block_size G _ x.climbs x.noes p y.numbers; core = z.core };
-        answer = inr (refl, omega (arith, found.0, found.1));
+        answer = inr (refl, omega (arith, ap (λ (xs : List ℕ). length xs) found, length_members (alive G.size after) G.size));
       },
-      pull_holds G x.climbs x.noes n _ after _ p _ y (record { held = refl; degeneracy = refl; order = refl; block = refl; size = refl }) refl refl refl refl refl z found.0 found.1 found.2 w,
-    )
-
-pub returns-in_default : goal.returns-in_default
-returns-in_default g c x y =
-    let G = g.S.Source.graph c.args.source.now in
-    let p = c.args.self.now in
-    let s = c.size.ensures in
-    let after = c.core.new.living in
-    let l = subst (λ m. 256 < count (alive m after) m) s c.in_default.ensures in (
-      record {
-        size = p.block_len;
-        kernel = alive G.size after;
-        is_kernel = record { block = block_size G _ x.climbs x.noes p y.numbers; core = c.in_ok-len.ensures.core };
-        answer = inl (refl, omega (arith, l));
-      },
-      refl,
+      pull_holds G x.climbs x.noes c.in_ok-len.len (replicate 1024 0) after (replicate 1024 0) c.core.new.taken p _ y (record { held = refl; degeneracy = refl; order = refl; block = refl; size = refl }) refl refl refl refl refl z c.front-self.ensures found w,
     )

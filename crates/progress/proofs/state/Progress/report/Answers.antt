@@ -4,4 +4,4 @@ use Rattle.progress.proofs.state.Progress.report.Goals as goal
 
 pub returns : goal.returns
 returns c g x y =
-    reported g c.args.self.now _ refl refl refl refl refl x y c.number.ensures refl c.proved.ensures
+    reported g c.args.self.now _ refl refl c.len.ensures.value refl refl x y c.from.ensures refl c.proved.ensures
