@@ -74,6 +74,16 @@ abbrev pub reply_of : Result (Unit {0}) Refusal → Reply
 reply_of (Ok u) = Done
 reply_of (Err e) = Refused e
 
+-- what a climb answers, as a reply
+abbrev pub remaining : Result ℕ Refusal → Reply
+remaining (Ok n) = Remaining n
+remaining (Err e) = Refused e
+
+-- what a try answers, as a reply
+abbrev pub tried : Result Bool Refusal → Reply
+tried (Ok won) = Tried won
+tried (Err e) = Refused e
+
 -- how a call is answered where the standing takes it, over the graph of that point
 abbrev pub Answers : Graph → Point → Call → Reply → Type 0
 Answers g x (call.Hide c) r = r ≡ reply_of (hide_answer g c)

@@ -1,4 +1,7 @@
 // The calls that a string of calls is made of, and their replies.
+ghost use Rattle.std.specs.Prelude.{◌≡◌};
+ghost use Rattle.calls.specs.Fair.{remaining, reply_of, tried};
+
 use graph::refusal::Refusal;
 
 // A call.
@@ -43,4 +46,40 @@ pub enum Reply {
     // a try: yes or no
     Tried(bool),
     Told(Report),
+}
+
+// What a call without a value answers.
+impl From<Result<(), Refusal>> for Reply {
+    ghost from_gives = { λ r x. x ≡ reply_of r };
+
+    fn from(answer: Result<(), Refusal>) -> Self {
+        match answer {
+            Ok(()) => Reply::Done,
+            Err(refusal) => Reply::Refused(refusal),
+        }
+    }
+}
+
+// What a climb answers.
+impl From<Result<usize, Refusal>> for Reply {
+    ghost from_gives = { λ r x. x ≡ remaining r };
+
+    fn from(answer: Result<usize, Refusal>) -> Self {
+        match answer {
+            Ok(left) => Reply::Remaining(left),
+            Err(refusal) => Reply::Refused(refusal),
+        }
+    }
+}
+
+// What a try answers.
+impl From<Result<bool, Refusal>> for Reply {
+    ghost from_gives = { λ r x. x ≡ tried r };
+
+    fn from(answer: Result<bool, Refusal>) -> Self {
+        match answer {
+            Ok(won) => Reply::Tried(won),
+            Err(refusal) => Reply::Refused(refusal),
+        }
+    }
 }

@@ -21,17 +21,16 @@ const LED: [(usize, usize); 8] = [
     (4, 5),
 ];
 
-// The edge at a place of the list, or what stood there before.
-fn expected(rt: &impl Abort, clashes: &[(usize, usize)], i: usize) -> Result<Edge, Fail> {
-    if i >= clashes.len() {
-        return Ok(DIRT);
+// The edges of the list, before what stood there.
+fn expected(clashes: &[(usize, usize)]) -> Result<[Edge; 24], Fail> {
+    let mut edges = [DIRT; 24];
+    for (edge, (a, b)) in edges.iter_mut().zip(clashes) {
+        *edge = Edge {
+            a: u16::try_from(*a)?,
+            b: u16::try_from(*b)?,
+        };
     }
-    let (a, b) = clashes[i];
-    assert!(rt; a < 65536 && b < 65536);
-    Ok(Edge {
-        a: a as u16,
-        b: b as u16,
-    })
+    Ok(edges)
 }
 
 // The cap of a stock with these clashes, and the bytes of those in the last community.
@@ -47,11 +46,14 @@ fn caps(
     let mut marks = [5u8; 24];
     assert_eq!(rt; cap(form, &mut edges, &mut living, &mut marks), Ok(top));
     let n = form.size();
-    for i in 0..24 {
-        assert_eq!(rt; edges[i], expected(rt, clashes, i)?);
-        assert_eq!(rt; living[i], if i < in_last.len() { in_last[i] } else { 7 });
-        assert_eq!(rt; marks[i], if i < n { 0 } else { 5 });
-    }
+    assert_eq!(rt; edges, expected(clashes)?);
+    assert!(rt; in_last.len() <= 24 && n <= 24);
+    let mut lives = [7u8; 24];
+    lives[..in_last.len()].copy_from_slice(in_last);
+    assert_eq!(rt; living, lives);
+    let mut cleared = [5u8; 24];
+    cleared[..n].fill(0);
+    assert_eq!(rt; marks, cleared);
     Ok(())
 }
 

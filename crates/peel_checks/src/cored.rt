@@ -11,9 +11,10 @@ fn leaves(rt: &impl Abort, form: &JobForm, least: usize, stays: [u8; 9], order: 
     let mut taken = [99u16; 9];
     assert_eq!(rt; core(form, least, &mut living, &mut taken), Ok(order.len()));
     assert_eq!(rt; living, stays);
-    for i in 0..9 {
-        assert_eq!(rt; taken[i], if i < order.len() { order[i] } else { 99 });
-    }
+    let mut due = [99u16; 9];
+    assert!(rt; order.len() <= 9);
+    due[..order.len()].copy_from_slice(order);
+    assert_eq!(rt; taken, due);
 }
 
 #[test]

@@ -22,15 +22,16 @@ pub fn drawn(rt: &impl Abort, form: &JobForm) -> Result<Kernel, Fail> {
 // Each of the first n has a drive from 1 to k, and no two that clash have the same; later places have 99.
 pub fn proper(rt: &impl Abort, form: &JobForm, table: &[u16], k: usize) {
     let n = form.size();
-    for a in 0..table.len() {
-        if a < n {
-            assert!(rt; 1 <= table[a] && table[a] as usize <= k);
-        } else {
-            assert_eq!(rt; table[a], 99);
-        }
-        for b in 0..a {
-            assert!(rt; !form.clashes(a, b) || table[a] != table[b]);
-        }
+    assert!(rt; n <= table.len());
+    assert!(rt; table[n..].iter().all(|d| *d == 99));
+    for (a, d) in table[..n].iter().enumerate() {
+        assert!(rt; 1 <= *d && *d as usize <= k);
+        assert!(rt;
+            table[..a]
+                .iter()
+                .enumerate()
+                .all(|(b, e)| !form.clashes(a, b) || e != d)
+        );
     }
 }
 

@@ -17,11 +17,11 @@ use Rattle.calls.specs.declared.call.Reply.{Reply}
 use Rattle.calls.specs.declared.call.Reply.TheVariants.{Done, Refused}
 use Rattle.calls.specs.Table.{takes, operation, turned_away}
 use Rattle.calls.specs.Points.{History, event, graph_at, point_at, climbed_to}
-use Rattle.calls.specs.Fair.{Answers, Fair, SparseEnough, reply_of}
+use Rattle.calls.specs.Fair.{Answers, Fair, SparseEnough, remaining, reply_of}
 use Rattle.progress.specs.Holds.{Holds}
 use Rattle.planner.specs.declared.planner.Planner.{Planner}
 use Rattle.progress.specs.declared.state.Progress.{Progress}
-use Rattle.planner.specs.Explains.{Explains, remaining}
+use Rattle.planner.specs.Explains.{Explains}
 
 pub when_yes : (b : Bool) (P Q : Type 0) → b ≡ true → P → MatchBool b P Q
 when_yes true P Q e p = p

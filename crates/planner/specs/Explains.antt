@@ -1,12 +1,10 @@
 -- A planner that stands where a history has brought it, and what a call does to it.
-use Rattle.std.specs.Prelude.{◌≡◌, ℕ, ◌∷◌, Ok, Err, Result}
+use Rattle.std.specs.Prelude.{◌≡◌, ℕ, ◌∷◌}
 use Rattle.graph.specs.declared.Source.{Ghosts}
-use Rattle.graph.specs.declared.refusal.Refusal.{Refusal}
 use Rattle.graph.specs.Graph.{Graph}
 use Rattle.graph.specs.Hiding.{marked}
 use Rattle.calls.specs.declared.call.Call.{Call}
 use Rattle.calls.specs.declared.call.Reply.{Reply}
-use Rattle.calls.specs.declared.call.Reply.TheVariants.{Refused, Remaining}
 use Rattle.calls.specs.Points.{History, event, graph_at, point_at}
 use Rattle.calls.specs.Fair.{Fair, FairHistory}
 use Rattle.progress.specs.Holds.{Holds}
@@ -24,7 +22,3 @@ abbrev pub Serves : {S B : Type 0} {gs : Ghosts S} → (S → Graph) → Planner
 Serves graph p c r q =
     (g : Graph) (h : History) → Explains graph g h p → Fair g (point_at g h) c r × Explains graph g (event c r ∷ h) q
 
--- what a climb answers, as a reply
-abbrev pub remaining : Result ℕ Refusal → Reply
-remaining (Ok n) = Remaining n
-remaining (Err e) = Refused e

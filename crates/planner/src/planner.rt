@@ -1,12 +1,12 @@
 ghost use Rattle.std.specs.Prelude.{◌≡◌, []};
-ghost use Rattle.calls.specs.Fair.{reply_of};
+ghost use Rattle.calls.specs.Fair.{remaining, reply_of};
 ghost use Rattle.calls.specs.Laws.{Proves};
 ghost use Rattle.calls.specs.Points.{History, graph_at, point_at};
 ghost use Rattle.graph.specs.Graph.{Graph};
 ghost use Rattle.calls.specs.Table.{takes};
 ghost use Rattle.calls.specs.declared.call.Call.TheVariants.{Hide, Show, Order, Climb, Report as Reporting};
 ghost use Rattle.calls.specs.declared.call.Reply.TheVariants.{Told};
-ghost use Rattle.planner.specs.Explains.{Explains, Serves, remaining};
+ghost use Rattle.planner.specs.Explains.{Explains, Serves};
 
 use bounds::Bound;
 use calls::call::Report;

@@ -77,7 +77,7 @@ pub fn row(cartridge: u16, drive: u16) -> Row {
 pub fn number<T: Drop>(answer: Result<T, Refusal>) -> u8 {
     match answer {
         Ok(_) => 0,
-        Err(refusal) => refusal.number(),
+        Err(refusal) => u8::from(refusal),
     }
 }
 

@@ -107,16 +107,12 @@ fn after_climbs(
     replies: &[Reply],
 ) -> Result<(), Fail> {
     let mut all = UP.to_vec(heap)?;
-    for call in calls {
-        all.push(*call)?;
-    }
+    all.extend_from_slice(calls)?;
     let mut due = [Reply::Done].to_vec(heap)?;
-    for left in 0..5 {
-        due.push(Reply::Remaining(4 - left))?;
+    for left in (0..5).rev() {
+        due.push(Reply::Remaining(left))?;
     }
-    for reply in replies {
-        due.push(*reply)?;
-    }
+    due.extend_from_slice(replies)?;
     plays(
         rt,
         heap,

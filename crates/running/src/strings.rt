@@ -1,6 +1,5 @@
 // Strings of calls.
 ghost use Rattle.std.specs.Prelude.{◌≡◌, ◌+◌, ◌≤◌, length, IfOk, vec_len, vec_capacity};
-ghost use Rattle.calls.specs.Fair.{reply_of};
 ghost use Rattle.calls.specs.Laws.{Run};
 ghost use Rattle.planner.specs.Explains.{Serves};
 ghost use Rattle.running.specs.Played.{Matched, Carried};
@@ -13,36 +12,6 @@ use graph::refusal::Refusal;
 use graph::{Listed, Source};
 use planner::{Planner, Slip};
 use std::alloc::{AllocError, Global};
-
-// A result without a value, as a reply.
-fn replied(r: Result<(), Refusal>) -> Reply
-    ensures { result ≡ reply_of r }
-{
-    match r {
-        Ok(()) => Reply::Done,
-        Err(e) => Reply::Refused(e),
-    }
-}
-
-// A climb.
-fn climb<S: Listed + Drop, B: Bound + Drop>(planner: &mut Planner<S, B>) -> Reply
-    ensures { Serves S.Source.graph planner.old Call.Climb result planner.new }
-{
-    match planner.climb() {
-        Ok(left) => Reply::Remaining(left),
-        Err(e) => Reply::Refused(e),
-    }
-}
-
-// A try.
-fn try_floor<S: Listed + Drop, B: Bound + Drop>(planner: &mut Planner<S, B>) -> Reply
-    ensures { Serves S.Source.graph planner.old Call.Try result planner.new }
-{
-    match planner.try_floor() {
-        Ok(won) => Reply::Tried(won),
-        Err(e) => Reply::Refused(e),
-    }
-}
 
 // A pull: its slip goes to the spare planner.
 fn pull<S: Listed + Drop, B: Bound + Drop>(
@@ -90,12 +59,12 @@ fn answer<S: Listed + Drop, B: Bound + Drop>(
     ensures matched { Matched S.Source.graph planner.new spare.new }
 {
     match call {
-        Call::Hide(c) => (replied(planner.hide(c)), slip),
-        Call::Show(c) => (replied(planner.show(c)), slip),
-        Call::Order => (replied(planner.order()), slip),
-        Call::Climb => (climb(planner), slip),
+        Call::Hide(c) => (planner.hide(c).into(), slip),
+        Call::Show(c) => (planner.show(c).into(), slip),
+        Call::Order => (planner.order().into(), slip),
+        Call::Climb => (planner.climb().into(), slip),
         Call::Pull => (pull(planner, spare), slip),
-        Call::Try => (try_floor(planner), slip),
+        Call::Try => (planner.try_floor().into(), slip),
         Call::PutBack => put_back(planner, spare, slip),
         Call::Report => (Reply::Told(planner.report()), slip),
     }

@@ -1,6 +1,7 @@
 ghost use Rattle.calls.specs.declared.call.Call.TheVariants.{Pull, Try, PutBack};
+ghost use Rattle.calls.specs.Fair.{tried};
 ghost use Rattle.planner.specs.Explains.{Serves};
-ghost use Rattle.planner.specs.Slips.{pulled, tried, returned};
+ghost use Rattle.planner.specs.Slips.{pulled, returned};
 
 use super::Planner;
 use bounds::Bound;
