@@ -1,5 +1,5 @@
 -- The kernel picture.
-use Rattle.std.specs.Prelude.{◌≡◌, ℕ, ◌+◌, ◌*◌, ◌<◌, Bool, List, length, slice_index}
+use Rattle.std.specs.Prelude.{◌≡◌, ℕ, ◌<◌, Bool, List, [], length, slice_index, slice_index_or}
 use Rattle.graph.specs.Graph.{Graph, clash}
 use Rattle.placings.specs.Rows.{linked}
 use Rattle.kernels.specs.declared.shape.Kernel.{Kernel}
@@ -12,7 +12,7 @@ joined k = linked k.rows
 
 -- the word w of row i: the places from 64 w on that are joined to i
 abbrev pub word_at : Kernel → ℕ → ℕ → ℕ
-word_at k i w = slice_index k.rows (4 * i + w)
+word_at k i w = slice_index (slice_index_or k.rows i []) w
 
 -- whether the vertices at two places of the list clash
 abbrev pub paired : Graph → List ℕ → ℕ → ℕ → Bool

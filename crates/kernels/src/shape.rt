@@ -4,11 +4,11 @@ ghost use Rattle.placings.specs.Rows.{Even, Loopless, linked};
 mod edits;
 mod reads;
 
-/// A graph on the places below `count`: `i` and `j` are joined where bit `j % 64` of the word `4 * i + j / 64` is set.
+/// A graph on the places below `count`: `i` and `j` are joined where bit `j % 64` of word `j / 64` of row `i` is set.
 #[derive(Drop)]
 pub struct Kernel {
     count: usize,
-    rows: [u64; 1024],
+    rows: [[u64; 4]; 256],
     ghost small: { count ≤ 256 },
     ghost even: { Even count (linked rows) },
     ghost loopless: { Loopless count (linked rows) },

@@ -1,5 +1,5 @@
 -- The colours of the places in a row, gathered in masks.
-use Rattle.std.proofs.Common.{◌≡◌, ℕ, ◌+◌, ◌-◌, ◌*◌, ◌/◌, ◌%◌, ◌<◌, ◌≤◌, min, Bool, true, false, not, ◌&&◌, ◌||◌, eqb, ltb, ◌⊎◌, List, get_or, sym, ap, ◌∙◌, inl, inr, arith}
+use Rattle.std.proofs.Common.{◌≡◌, ℕ, ◌+◌, ◌-◌, ◌*◌, ◌/◌, ◌%◌, ◌<◌, ◌≤◌, min, Bool, true, false, not, ◌&&◌, ◌||◌, eqb, ltb, ◌⊎◌, List, [], get_or, sym, ap, ◌∙◌, inl, inr, arith}
 use lib.Bits.{bit_or}
 use Rattle.std.proofs.lemmas.Bool.{cases_eq, cases_lt, both_ways, and_parts, and_from, or_cases, or_left, ltb-true, lt-ltb, eqb-true, eq-eqb, not-true}
 use Rattle.std.proofs.lemmas.Bool.Decides.{nat_tests}
@@ -67,13 +67,13 @@ pub near_none : (n : ℕ) (E : ℕ → ℕ → Bool) (table : List ℕ) (c base 
 near_none n E table c base =
     record { some = λ j y. absurd (both_ways (bit 0 j) (bit_zero j) y); all = λ v j l m. absurd (omega arith) }
 
-pub near_more : (n : ℕ) (rows table : List ℕ) (c w base front m worn : ℕ) → Near n (linked rows) table c (64 * w) base m → ((j : ℕ) → bit front j ≡ (bit (get_or rows (4 * c + w) 0) j && ltb j (min (n - 64 * w) 64))) → Worn front table (64 * w) base worn → Near n (linked rows) table c (64 * (w + 1)) base (bit_or m worn)
+pub near_more : (n : ℕ) (rows : List (List ℕ)) (table : List ℕ) (c w base front m worn : ℕ) → Near n (linked rows) table c (64 * w) base m → ((j : ℕ) → bit front j ≡ (bit (get_or (get_or rows c []) w 0) j && ltb j (min (n - 64 * w) 64))) → Worn front table (64 * w) base worn → Near n (linked rows) table c (64 * (w + 1)) base (bit_or m worn)
 near_more n rows table c w base front m worn s is g =
     record {
       some = λ j y. elim (or_cases (bit m j) (bit worn j) (sym (bit-bit_or m worn j) ∙ y)) [
         | inl h ↦ s.some j h
         | inr h ↦ let u = g.some j h in
-            let p = and_parts (bit (get_or rows (4 * c + w) 0) u.0) (ltb u.0 (min (n - 64 * w) 64)) (sym (is u.0) ∙ u.1) in
+            let p = and_parts (bit (get_or (get_or rows c []) w 0) u.0) (ltb u.0 (min (n - 64 * w) 64)) (sym (is u.0) ∙ u.1) in
             let l = ltb-true u.0 (min (n - 64 * w) 64) p.1 in
             let a : (64 * w + u.0) / 64 ≡ w = omega arith in
             let b : (64 * w + u.0) % 64 ≡ u.0 = omega arith in
@@ -85,7 +85,7 @@ near_more n rows table c w base front m worn s is g =
             let i : v / 64 ≡ w = omega arith in
             let o : v % 64 ≡ u = omega arith in
             let r : 64 * w + u ≡ v = omega arith in
-            let b : bit front u ≡ true = is u ∙ and_from (bit (get_or rows (4 * c + w) 0) u) (ltb u (min (n - 64 * w) 64)) (rw (i, o) at y) (lt-ltb u (min (n - 64 * w) 64) (omega arith)) in
+            let b : bit front u ≡ true = is u ∙ and_from (bit (get_or (get_or rows c []) w 0) u) (ltb u (min (n - 64 * w) 64)) (rw (i, o) at y) (lt-ltb u (min (n - 64 * w) 64) (omega arith)) in
             let z = g.all u j b h (ap (at table) r ∙ q) in
             bit-bit_or m worn j ∙ grind (arith, nat_tests)
       ];

@@ -1,26 +1,25 @@
-ghost use Rattle.std.specs.Prelude.{◌≡◌, ℕ, ◌<◌, ◌≤◌, false, length, MatchResult, ◌≢◌};
+ghost use Rattle.std.specs.Prelude.{◌≡◌, ℕ, ◌<◌, ◌≤◌, length, MatchResult};
 ghost use Rattle.kernels.specs.Kernels.{Draws, paired, places};
-ghost use Rattle.placings.specs.Rows.{linked};
+ghost use Rattle.placings.specs.Rows.{marked};
 
 use super::Kernel;
 use graph::Source;
 use graph::refusal::Refusal;
 use masks::with;
 
-// Fills row `i`, which is blank: joined to `j` where the vertices clash.
-fn fill_row<S: Source>(source: &S, chosen: &[u16], i: usize, rows: &mut [u64])
+// Row `i`: the places whose vertices clash with the `i`-th.
+fn row_of<S: Source>(source: &S, chosen: &[u16], i: usize) -> [u64; 4]
     requires within { i < length chosen.now }
     requires few { length chosen.now ≤ 256 }
-    requires long { length rows.old ≡ 1024 }
-    requires blank { (j : ℕ) → j < 256 → linked rows.old i j ≡ false }
-    ensures here { (j : ℕ) → j < length chosen.now → linked rows.new i j ≡ paired (S.Source.graph source.now) chosen.now i j }
-    ensures others { (a j : ℕ) → (a ≢ i) → j < 256 → linked rows.new a j ≡ linked rows.old a j }
+    ensures { (j : ℕ) → j < length chosen.now → marked result j ≡ paired (S.Source.graph source.now) chosen.now i j }
 {
-    for j in 0..chosen.len() {
-        if source.clashes(chosen[i] as usize, chosen[j] as usize) {
-            rows[4 * i + j / 64] = with(rows[4 * i + j / 64], j % 64);
+    let mut row = [0u64; 4];
+    for (j, c) in chosen.iter().enumerate() {
+        if source.clashes(chosen[i] as usize, *c as usize) {
+            row[j / 64] = with(row[j / 64], j % 64);
         }
     }
+    row
 }
 
 impl Kernel {
@@ -30,7 +29,7 @@ impl Kernel {
     {
         Kernel {
             count: 0,
-            rows: [0; 1024],
+            rows: [[0; 4]; 256],
         }
     }
 
@@ -43,9 +42,9 @@ impl Kernel {
         if count > 256 {
             return Err(Refusal::TooWide);
         }
-        let mut rows = [0u64; 1024];
-        for i in 0..count {
-            fill_row(source, chosen, i, &mut rows);
+        let mut rows = [[0u64; 4]; 256];
+        for (i, row) in rows[..count].iter_mut().enumerate() {
+            *row = row_of(source, chosen, i);
         }
         *self = Kernel { count, rows };
         Ok(())

@@ -17,17 +17,13 @@ impl Kernel {
     pub fn joined(&self, i: usize, j: usize) -> bool
         ensures { result ≡ (nat_lt i (places self.now) && (nat_lt j (places self.now) && joined self.now i j)) }
     {
-        i < self.count && j < self.count && has(self.rows[4 * i + j / 64], j % 64)
+        i < self.count && j < self.count && has(self.rows[i][j / 64], j % 64)
     }
 
     /// The word `w` of row `i`, one of four: the places from `64 * w` on that are joined to `i`.
     pub fn word(&self, i: usize, w: usize) -> u64
         ensures { i < 256 → w < 4 → result ≡ word_at self.now i w }
     {
-        if i < 256 && w < 4 {
-            self.rows[4 * i + w]
-        } else {
-            0
-        }
+        if i < 256 && w < 4 { self.rows[i][w] } else { 0 }
     }
 }

@@ -4,4 +4,4 @@ use Rattle.placings.proofs.Rows.{Rows}
 use Rattle.kernels.proofs.shape.Kernel.draw.Given as goal
 
 abbrev pub invariant-loop-i : goal.invariant-loop-i
-invariant-loop-i g l = Rows (paired (g.S.Source.graph l.source) l.chosen) (length l.chosen) l.i l.rows
+invariant-loop-i g l = Rows (paired (g.S.Source.graph l.source) l.chosen) (length l.chosen) l.i l.row-items

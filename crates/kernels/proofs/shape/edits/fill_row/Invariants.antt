@@ -1,6 +1,0 @@
-use Rattle.kernels.specs.Kernels.{paired}
-use Rattle.placings.proofs.Rows.{Row}
-use Rattle.kernels.proofs.shape.edits.fill_row.Given as goal
-
-abbrev pub invariant-loop-j : goal.invariant-loop-j
-invariant-loop-j g l = Row (paired (g.S.Source.graph l.source) l.chosen l.i) l.i l.j l.initial.rows l.rows
