@@ -29,109 +29,125 @@ fn worn(members: u64, table: &[u16], from: usize, base: usize) -> u64
     worn
 }
 
-// Of the 64 colours above `base` those of the places that are joined to `c`.
-fn taken_near(kernel: &Kernel, table: &[u16], c: usize, base: usize) -> u64
-    requires place { c < places kernel.now }
-    requires long { places kernel.now ≤ length table.now }
-    requires low { base ≤ 256 }
-    ensures { Near (places kernel.now) (joined kernel.now) table.now c 256 base result }
-{
-    let n = kernel.count();
-    let mut taken = 0u64;
-    for w in 0..4 {
-        let from = 64 * w;
-        if from < n {
-            let row = meet(kernel.word(c, w), below((n - from).min(64)));
-            taken |= worn(row, table, from, base);
-        }
-    }
-    taken
+// What is asked of a kernel: a proper colouring in 1 to `k`.
+#[derive(Clone, Copy)]
+struct Task<'a> {
+    kernel: &'a Kernel,
+    k: usize,
 }
 
-// Of the 64 colours above `base` those that are free at `c`, up to `k` and at most one that is not in use yet.
-fn open(kernel: &Kernel, table: &[u16], c: usize, base: usize, used: usize, k: usize) -> u64
-    requires place { c < places kernel.now }
-    requires long { places kernel.now ≤ length table.now }
-    requires low { base ≤ used }
-    requires high { used < places kernel.now }
-    ensures { OpenAt kernel.now table.now c base used k result }
-{
-    let top = k.min(used + 1);
-    let low = below(top.saturating_sub(base).min(64));
-    minus(low, taken_near(kernel, table, c, base))
-}
-
-// The first place that has no colour.
-fn first_blank(kernel: &Kernel, table: &[u16]) -> Option<usize>
-    requires { places kernel.now ≤ length table.now }
-    ensures { Picked kernel.now table.now result }
-{
-    table[..kernel.count()].iter().position(|d| *d == 0)
-}
-
-// A place that has no colour: where the hints are right, one with the fewest colours left.
-fn pick(kernel: &Kernel, hints: &Hints, table: &[u16], used: usize, k: usize) -> Option<usize>
-    requires { places kernel.now ≤ length table.now }
-    ensures { Picked kernel.now table.now result }
-{
-    match hints.keenest_taken(kernel, used, k) {
-        Some(c) if c < kernel.count() && table[c] == 0 => Some(c),
-        _ => first_blank(kernel, table),
-    }
-}
-
-// Colours the places that have no colour, where those that have one have none above `used`.
-#[cycle(choose_place)]
-fn place(kernel: &Kernel, hints: &mut Hints, table: &mut [u16], used: usize, k: usize) -> bool
-    requires { ReadyAt kernel.now k used table.old }
-    ensures { Placed kernel.now k table.old table.new result }
-{
-    match pick(kernel, hints, table, used, k) {
-        None => true,
-        Some(c) => {
-            let left = open(kernel, table, c, 0, used, k);
-            choose(kernel, hints, table, c, 0, left, used, k)
-        }
-    }
-}
-
-// Gives place `c` one of the colours that are left above `base`, and colours the others.
-#[cycle(choose_place)]
-fn choose(
-    kernel: &Kernel,
-    hints: &mut Hints,
-    table: &mut [u16],
-    c: usize,
+// Of the 64 colours above `base` those that `place` has left.
+#[derive(Clone, Copy)]
+struct Page {
+    place: usize,
     base: usize,
     left: u64,
-    used: usize,
-    k: usize,
-) -> bool
-    requires ready { ReadyAt kernel.now k used table.old }
-    requires place { c < places kernel.now }
-    requires blank { at table.old c ≡ 0 }
-    requires low { base ≤ used }
-    requires high { used < places kernel.now }
-    requires left { LeftAt kernel.now table.old c base used k left }
-    ensures { Chosen kernel.now k c base left used table.old table.new result }
-{
-    if left == 0 {
-        if base + 64 >= k || base + 64 > used {
-            return false;
+}
+
+impl<'a> Task<'a> {
+    // Of the 64 colours above `base` those of the places that are joined to `c`.
+    fn taken_near(&self, table: &[u16], c: usize, base: usize) -> u64
+        requires place { c < places self.now.kernel.now }
+        requires long { places self.now.kernel.now ≤ length table.now }
+        requires low { base ≤ 256 }
+        ensures { Near (places self.now.kernel.now) (joined self.now.kernel.now) table.now c 256 base result }
+    {
+        let n = self.kernel.count();
+        let mut taken = 0u64;
+        for w in 0..4 {
+            let from = 64 * w;
+            if from < n {
+                let row = meet(self.kernel.word(c, w), below((n - from).min(64)));
+                taken |= worn(row, table, from, base);
+            }
         }
-        let next = open(kernel, table, c, base + 64, used, k);
-        return choose(kernel, hints, table, c, base + 64, next, used, k);
+        taken
     }
-    let j = lowest(left);
-    let d = base + j + 1;
-    table[c] = d as u16;
-    hints.note(kernel, c, d);
-    if place(kernel, hints, table, used.max(d), k) {
-        return true;
+
+    // Of the 64 colours above `base` those that are free at `c`, up to `k` and at most one that is not in use yet.
+    fn open(&self, table: &[u16], c: usize, base: usize, used: usize) -> u64
+        requires place { c < places self.now.kernel.now }
+        requires long { places self.now.kernel.now ≤ length table.now }
+        requires low { base ≤ used }
+        requires high { used < places self.now.kernel.now }
+        ensures { OpenAt self.now.kernel.now table.now c base used self.now.k result }
+    {
+        let top = self.k.min(used + 1);
+        let low = below(top.saturating_sub(base).min(64));
+        minus(low, self.taken_near(table, c, base))
     }
-    hints.forget(c, d);
-    table[c] = 0;
-    choose(kernel, hints, table, c, base, without(left, j), used, k)
+
+    // The first place that has no colour.
+    fn first_blank(&self, table: &[u16]) -> Option<usize>
+        requires { places self.now.kernel.now ≤ length table.now }
+        ensures { Picked self.now.kernel.now table.now result }
+    {
+        table[..self.kernel.count()].iter().position(|d| *d == 0)
+    }
+
+    // A place that has no colour: where the hints are right, one with the fewest colours left.
+    fn pick(&self, hints: &Hints, table: &[u16], used: usize) -> Option<usize>
+        requires { places self.now.kernel.now ≤ length table.now }
+        ensures { Picked self.now.kernel.now table.now result }
+    {
+        match hints.keenest_taken(self.kernel, used, self.k) {
+            Some(c) if c < self.kernel.count() && table[c] == 0 => Some(c),
+            _ => self.first_blank(table),
+        }
+    }
+
+    // Colours the places that have no colour, where those that have one have none above `used`.
+    #[cycle(choose_place)]
+    fn place(&self, hints: &mut Hints, table: &mut [u16], used: usize) -> bool
+        requires { ReadyAt self.now.kernel.now self.now.k used table.old }
+        ensures { Placed self.now.kernel.now self.now.k table.old table.new result }
+    {
+        match self.pick(hints, table, used) {
+            None => true,
+            Some(place) => {
+                let left = self.open(table, place, 0, used);
+                let page = Page {
+                    place,
+                    base: 0,
+                    left,
+                };
+                self.choose(hints, table, page, used)
+            }
+        }
+    }
+
+    // Gives the place one of the colours of the page or of those above it, and colours the others.
+    #[cycle(choose_place)]
+    fn choose(&self, hints: &mut Hints, table: &mut [u16], page: Page, used: usize) -> bool
+        requires ready { ReadyAt self.now.kernel.now self.now.k used table.old }
+        requires place { page.place < places self.now.kernel.now }
+        requires blank { at table.old page.place ≡ 0 }
+        requires low { page.base ≤ used }
+        requires high { used < places self.now.kernel.now }
+        requires left { LeftAt self.now.kernel.now table.old page.place page.base used self.now.k page.left }
+        ensures { Chosen self.now.kernel.now self.now.k page.place page.base page.left used table.old table.new result }
+    {
+        let Page { place, base, left } = page;
+        if left == 0 {
+            if base + 64 >= self.k || base + 64 > used {
+                return false;
+            }
+            let base = base + 64;
+            let left = self.open(table, place, base, used);
+            return self.choose(hints, table, Page { place, base, left }, used);
+        }
+        let j = lowest(left);
+        let d = base + j + 1;
+        table[place] = d as u16;
+        hints.note(self.kernel, place, d);
+        if self.place(hints, table, used.max(d)) {
+            return true;
+        }
+        hints.forget(place, d);
+        table[place] = 0;
+        let left = without(left, j);
+        self.choose(hints, table, Page { place, base, left }, used)
+    }
 }
 
 /// Whether the kernel has a proper colouring in 1 to `k`, which then stands in the table.
@@ -143,9 +159,10 @@ pub fn colour(kernel: &Kernel, table: &mut [u16], k: usize) -> Result<bool, Refu
     if table.len() < n {
         return Err(Refusal::ShortBuffer);
     }
+    let task = Task { kernel, k };
     let mut hints = Hints::new(n);
     let mut found = [0u16; 256];
-    if !place(kernel, &mut hints, &mut found, 0, k) {
+    if !task.place(&mut hints, &mut found, 0) {
         return Ok(false);
     }
     table[..n].copy_from_slice(&found[..n]);

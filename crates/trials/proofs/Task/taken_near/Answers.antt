@@ -3,17 +3,17 @@ use Rattle.finite.specs.Masks.{bit}
 use Rattle.kernels.specs.Kernels.{places, joined, word_at}
 use Rattle.placings.specs.Tries.{Near}
 use Rattle.placings.proofs.Words.{near_none, near_more, near_past}
-use Rattle.trials.proofs.taken_near.Goals as goal
-use Rattle.trials.proofs.taken_near.Goals.{then-from-n, else-from-n}
+use Rattle.trials.proofs.Task.taken_near.Goals as goal
+use Rattle.trials.proofs.Task.taken_near.Goals.{then-from-n, else-from-n}
 
 pub loop-w-init : goal.loop-w-init
 loop-w-init c =
-    let q = c.args.kernel.now in
+    let q = c.args.self.now.kernel.now in
     near_none (places q) (joined q) c.args.table.now c.args.c c.args.base
 
 pub loop-w-preserved : goal.loop-w-preserved
 loop-w-preserved c =
-    let q = c.args.kernel.now in
+    let q = c.args.self.now.kernel.now in
     let p = c.args.c in
     let w = c.loop-w.w in
     let n = c.count-n.ensures.value in
