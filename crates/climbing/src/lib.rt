@@ -4,7 +4,7 @@
 ghost use Rattle.climbing.specs.Theorems.{SomeLargest, OneNumber, LaterNeighbours, NoneClimbed, AllClimbed, OrderOnce, OrderFew};
 
 // The clique number of a graph is one more than the largest among those of the later neighbours of its vertices.
-pub fn climbing_stands() -> u8
+pub fn climbing_stands()
     ensures some { SomeLargest }
     ensures one { OneNumber }
     ensures number { LaterNeighbours }
@@ -12,6 +12,4 @@ pub fn climbing_stands() -> u8
     ensures all { AllClimbed }
     ensures once { OrderOnce }
     ensures few { OrderFew }
-{
-    0
-}
+{}

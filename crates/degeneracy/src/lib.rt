@@ -4,8 +4,6 @@
 ghost use Rattle.degeneracy.specs.Theorems.{SomeOrder};
 
 /// Every graph has a removal order.
-pub fn stands() -> u8
+pub fn stands()
     ensures { SomeOrder }
-{
-    0
-}
+{}

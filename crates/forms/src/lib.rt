@@ -4,10 +4,8 @@
 ghost use Rattle.forms.specs.Forms.{HasEdges, OneForm, OneEdges};
 
 /// Every list form has rising edges, and exactly one list of them; every stock of edges has one list form at most.
-pub fn forms_stand() -> u8
+pub fn forms_stand()
     ensures edges { HasEdges }
     ensures form { OneForm }
     ensures one { OneEdges }
-{
-    0
-}
+{}

@@ -14,11 +14,9 @@ pub enum Kind {
 }
 
 /// Reading finds exactly what a well-formed sheet states; every stock has such a sheet, and no sheet states two.
-pub fn sheets_stand() -> u8
+pub fn sheets_stand()
     ensures read { ReadAsStated }
     ensures stated { StatedAsRead }
     ensures one { OneStock }
     ensures some { HasSheet }
-{
-    0
-}
+{}

@@ -4,8 +4,6 @@
 ghost use Rattle.placings.specs.Theorems.{OneNewEnough};
 
 /// At each place one colour that is not in use yet stands for all such.
-pub fn placings_stand() -> u8
+pub fn placings_stand()
     ensures { OneNewEnough }
-{
-    0
-}
+{}

@@ -37,8 +37,6 @@ impl<B: Bound> Bound for TwoPartBound<B> {
 }
 
 // The answer is the largest r + s of all pairs that qualify.
-pub fn two_part_stands() -> u8
+pub fn two_part_stands()
     ensures { (answer : Drawing → ℕ → ℕ) (p : Drawing) (m : ℕ) → IsLargest (part_reaching answer p (lower_part p m) (upper_part p m)) (part_reaching answer p (upper_part p m) (lower_part p m)) (two_part answer p m) }
-{
-    0
-}
+{}
