@@ -1,9 +1,9 @@
 -- What walks over the neighbours of a vertex yield.
-use Rattle.std.proofs.Common.{◌^◌, ◌+◌, ◌≡◌, ℕ, zero, suc, ◌<◌, Bool, true, false, cond, not, ◌&&◌, List, [], ◌∷◌, ◌++◌, length, filter, drop, Option, Some, None, refl, sym, ap, ◌∙◌, subst, arith, length-drop, add-one}
+use Rattle.std.proofs.Common.{◌^◌, ◌+◌, ◌≡◌, ℕ, zero, suc, ◌<◌, Bool, true, false, cond, not, ◌&&◌, List, [], ◌∷◌, ◌++◌, length, filter, drop, Option, Some, None, refl, sym, ap, ◌∙◌, subst, subst₂, arith, length-drop, add-one}
 use Rattle.std.proofs.lemmas.List.Elements.{filter-append}
 use Rattle.std.proofs.lemmas.Iterator.{YieldsList}
 use Rattle.std.proofs.lemmas.Iterator.Consumers.{YieldsList-from_shown}
-use Rattle.finite.specs.Finite.{members, nth}
+use Rattle.finite.specs.Finite.{count, members, nth}
 use Rattle.finite.proofs.Members.{length_members, members_at}
 use Rattle.graph.specs.Graph.{Graph, Lawful, held, clash, degree}
 use Rattle.graph.specs.Hiding.{without}
@@ -63,3 +63,21 @@ members_left g h c e =
 -- how many are left to a walk is small
 pub left_fits : (g : Graph) (c i : ℕ) → Lawful g → 0 + left g c i < 2 ^ 64
 left_fits g c i l = omega (arith, degree_le g c, l.small)
+
+-- a step of a walk in g at c, from i neighbours passed to j: it gives b
+pub record Next (g : Graph) (c i b : ℕ) (after : Graph) (vertex j : ℕ) : Type 0 where
+  pub here : (after ≡ g) × (vertex ≡ c)
+  pub is : (b < g.size) × (clash g c b ≡ true) × (count (clash g c) b ≡ i)
+  pub within : i < degree g c
+  pub passed : j ≡ i + 1
+
+-- of a walk that is in g at c
+pub next_of : {g h k : Graph} {c v u i b j : ℕ} → (h ≡ g) × (v ≡ c) → (k ≡ h) × (u ≡ v) × ((b < h.size) × (clash h v b ≡ true) × (count (clash h v) b ≡ i) × (i < degree h v) × (j ≡ i + 1)) → Next g c i b k u j
+next_of {g} {h} {k} {c} {v} {u} {i} {b} {j} e s =
+    let r = s.2 in
+    let t : (b < g.size) × (clash g c b ≡ true) × (count (clash g c) b ≡ i) × (i < degree g c) = subst₂ (λ (w : Graph) (x : ℕ). (b < w.size) × (clash w x b ≡ true) × (count (clash w x) b ≡ i) × (i < degree w x)) e.0 e.1 (r.0, r.1, r.2, r.3) in
+    record { here = (s.0 ∙ e.0, s.1 ∙ e.1); is = (t.0, t.1, t.2); within = t.3; passed = r.4 }
+
+-- where it ends, all are passed
+pub last_of : {g h k : Graph} {c v u i j : ℕ} → (h ≡ g) × (v ≡ c) → (k ≡ h) × (u ≡ v) × ((degree h v ≡ i) × (j ≡ i)) → degree g c ≡ i
+last_of {g} {h} {k} {c} {v} {u} {i} e s = subst₂ (λ (w : Graph) (x : ℕ). degree w x ≡ i) e.0 e.1 s.2.0
