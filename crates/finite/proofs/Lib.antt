@@ -7,4 +7,4 @@ pub mod Pigeons
 pub mod Rising
 pub mod Splits
 pub mod Tables
-pub mod Backward
+pub mod Walking

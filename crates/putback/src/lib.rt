@@ -68,8 +68,8 @@ fn spread(list: &[u16], drives: &[u16], colours: &mut [u16])
     requires listed { (i : ℕ) → i < length list.now → slice_index list.now i < length colours.old }
     ensures { Laid list.now drives.now colours.old colours.new }
 {
-    for i in 0..list.len() {
-        colours[list[i] as usize] = drives[i];
+    for (x, drive) in list.iter().zip(drives) {
+        colours[*x as usize] = *drive;
     }
 }
 

@@ -1,7 +1,7 @@
 use Rattle.std.proofs.Common.{◌≡◌, ◌+◌, ◌≤◌, ◌++◌, length, get_or, set, take, drop, sym, ap, ◌∙◌, subst, cond, arith, rules}
 use Rattle.std.proofs.lemmas.Bool.{lt-ltb}
 use Rattle.std.proofs.lemmas.List.{drop_at, length-take-le, take_all}
-use Rattle.finite.proofs.Backward.{back_of}
+use Rattle.finite.proofs.Walking.{back_of}
 use Rattle.finite.proofs.Tables.{filled_at}
 use Rattle.degeneracy.specs.Greedy.{Lowest, coloured_near}
 use Rattle.graph.specs.Graph.{held}

@@ -3,7 +3,7 @@ use Rattle.std.proofs.lemmas.Bool.{both_ways}
 use Rattle.std.proofs.lemmas.List.{take_all}
 use Rattle.finite.specs.Finite.{has}
 use Rattle.finite.proofs.Counts.{count_le, has_at}
-use Rattle.finite.proofs.Backward.{back_of}
+use Rattle.finite.proofs.Walking.{back_of}
 use Rattle.graph.specs.Graph.{clash, held}
 use Rattle.degeneracy.specs.Greedy.{Lowest, coloured_near}
 use Rattle.peels.specs.Peels.{Taken, IsPutBack}

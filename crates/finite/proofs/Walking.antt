@@ -1,5 +1,5 @@
--- A walk back through a list: what is left of it is a front.
-use Rattle.std.proofs.Common.{◌≡◌, ℕ, ◌+◌, ◌<◌, ◌≤◌, List, [], ◌∷◌, ◌++◌, length, get_or, take, refl, sym, ap, ◌∙◌, arith, length-take}
+-- Walks through a list, and what is left of it.
+use Rattle.std.proofs.Common.{◌≡◌, ℕ, ◌+◌, ◌<◌, ◌≤◌, List, [], ◌∷◌, ◌++◌, length, get_or, take, refl, sym, ap, ◌∙◌, drop, arith, length-take, length-drop, drop-cons, add-one}
 use Rattle.std.proofs.lemmas.List.{length_push, length-take-le, get_or_at, take_at, take_more}
 
 -- one step: the last of what is left
@@ -24,3 +24,21 @@ back_of xs rest left x f e =
       within = low;
       is = sym (get_or_at left x [] 0 m refl) ∙ ap (λ v. get_or v m 0) h ∙ get_or_at (take m xs) g [] 0 m l;
     }
+
+-- a walk on through a list: the first of what is left
+pub record Ahead (xs rest : List ℕ) (i x : ℕ) : Type 0 where
+  pub left : rest ≡ drop (i + 1) xs
+  pub within : i < length xs
+  pub is : x ≡ get_or xs i 0
+
+pub ahead_of : (xs rest left : List ℕ) (i x : ℕ) → rest ≡ drop i xs → rest ≡ x ∷ left → Ahead xs left i x
+ahead_of xs rest left i x f e =
+    let w : i < length xs = omega (arith, ap length f, ap length e, length-drop i xs) in
+    let d = drop-cons xs i 0 w in
+    record { left = rw add-one (tails (sym e ∙ f ∙ d)); within = w; is = heads (sym e ∙ f ∙ d) }
+  where
+    heads : {a b : ℕ} {ts us : List ℕ} → a ∷ ts ≡ b ∷ us → a ≡ b
+    heads h = cc
+
+    tails : {a b : ℕ} {ts us : List ℕ} → a ∷ ts ≡ b ∷ us → ts ≡ us
+    tails h = cc
