@@ -1,5 +1,7 @@
 -- What walks over the neighbours of a vertex yield.
 use Rattle.std.proofs.Common.{◌^◌, ◌+◌, ◌≡◌, ℕ, zero, suc, ◌<◌, Bool, true, false, cond, not, ◌&&◌, List, [], ◌∷◌, ◌++◌, length, filter, drop, Option, Some, None, refl, sym, ap, ◌∙◌, subst, subst₂, arith, length-drop, add-one}
+use Rattle.std.specs.Iterator.{CallableAtEachTurn, Yields}
+use Rattle.std.specs.List.{FoldsTo}
 use Rattle.std.proofs.lemmas.List.Elements.{filter-append}
 use Rattle.std.proofs.lemmas.Iterator.{YieldsList}
 use Rattle.std.proofs.lemmas.Iterator.Consumers.{YieldsList-from_shown}
@@ -81,3 +83,22 @@ next_of {g} {h} {k} {c} {v} {u} {i} {b} {j} e s =
 -- where it ends, all are passed
 pub last_of : {g h k : Graph} {c v u i j : ℕ} → (h ≡ g) × (v ≡ c) → (k ≡ h) × (u ≡ v) × ((degree h v ≡ i) × (j ≡ i)) → degree g c ≡ i
 last_of {g} {h} {k} {c} {v} {u} {i} e s = subst₂ (λ (w : Graph) (x : ℕ). degree w x ≡ i) e.0 e.1 s.2.0
+
+module _ {X : Type 0} (graph : X → Graph) (vertex passed : X → ℕ) where
+  -- no step leaves the graph
+  pub stays_there : (xs : List ℕ) (s t : X) → Yields (walks graph vertex passed) s xs t → graph t ≡ graph s
+  stays_there [] s t y = ap graph (sym y)
+  stays_there (x ∷ xs) s t y = stays_there xs y.0 t y.2 ∙ y.1.0
+
+  -- a closure that no call changes may be called at each neighbour, if it may be at each number below the size
+  pub serves_from_neighbours : {P : Type 0} {R : P → ℕ → P → Type 0} {Q : P → ℕ → Type 0} {s : X} {p : P} → ((x : ℕ) (q : P) → R p x q → q ≡ p) → ((x : ℕ) → x < (graph s).size → Q p x) → CallableAtEachTurn (walks graph vertex passed) R Q s p
+  serves_from_neighbours {P} {R} {Q} {s} {p} stays h =
+      record {
+        at = λ xs t q x u y c e.
+          let b : x < (graph s).size = subst (λ (w : Graph). x < w.size) (stays_there xs s t y) e.2.0 in
+          subst (λ k. Q k x) (sym (unmoved xs q c)) (h x b);
+      }
+    where
+      unmoved : (xs : List ℕ) (q : P) → FoldsTo R p xs q → q ≡ p
+      unmoved [] q c = sym c
+      unmoved (x ∷ xs) q c = unmoved xs q (subst (λ k. FoldsTo R k xs q) (stays x c.0 c.1) c.2)
