@@ -1,7 +1,7 @@
 //! A bound on the cliques of a graph: the smaller of degeneracy + 1 and community number + 2.
 #![tactic(auto)]
 
-ghost use Rattle.std.specs.Prelude.{◌≡◌, ℕ, ◌≤◌, min, length, if◌then◌else◌, MatchOption, MatchResult, nat_lt, slice_index};
+ghost use Rattle.std.specs.Prelude.{◌≡◌, length, MatchOption, MatchResult};
 ghost use Rattle.caps.specs.Cap.{CappedIn, CapFits, CapRefused};
 
 use communities::Below;
@@ -13,23 +13,6 @@ use order::degeneracy;
 use peeling::{MOST, deepest};
 
 mod edges;
-
-// Writes v in the first m places.
-fn fill(bytes: &mut [u8], m: usize, v: u8)
-    requires { m ≤ length bytes.old }
-    ensures { (c : ℕ) → slice_index bytes.new c ≡ (if nat_lt c m then v else slice_index bytes.old c) }
-{
-    for c in 0..m {
-        bytes[c] = v;
-    }
-}
-
-// The smaller of two numbers.
-fn smaller(a: usize, b: usize) -> usize
-    ensures { result ≡ min a b }
-{
-    if a < b { a } else { b }
-}
 
 // What refuses m edges and n vertices in buffers of these lengths.
 fn refusal<S: Listed>(source: &S, clashes: usize, living: usize, marks: usize) -> Option<Refusal>
@@ -62,7 +45,7 @@ pub fn cap<S: Listed>(
     }
     let n = source.size();
     let m = write_edges(source, clashes);
-    fill(marks, n, 0);
+    marks[..n].fill(0);
     let found = degeneracy(source);
     if found.len == 0 {
         return Ok(0);
@@ -70,10 +53,10 @@ pub fn cap<S: Listed>(
     if m == 0 {
         return Ok(1);
     }
-    fill(living, m, 1);
+    living[..m].fill(1);
     let pool = Below { size: n };
     let Ok(number) = deepest(&pool, &clashes[0..m], living, marks) else {
         return Err(Refusal::ShortBuffer);
     };
-    Ok(smaller(found.degeneracy + 1, number + 2))
+    Ok((found.degeneracy + 1).min(number + 2))
 }
