@@ -9,19 +9,10 @@ ghost use Rattle.cohesion.specs.Common.{linked, common, Listing, Chained};
 ghost use Rattle.cohesion.proofs.Links.{common_falls};
 
 use graph::edge::Edge;
-use items::Peeled;
+use items::{Peeled, wipe};
 use walks::{chain, is_listing, raise, triangles};
 
 mod walks;
-
-// Clears the first n marks.
-fn wipe(marks: &mut [u8], n: usize)
-    ensures { Wiped n marks.old marks.new }
-{
-    for k in 0..n.min(marks.len()) {
-        marks[k] = 0;
-    }
-}
 
 // Lent marks, of which the first `size` are cleared when they are given back.
 struct Marks<'a> {

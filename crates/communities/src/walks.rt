@@ -156,16 +156,6 @@ pub fn is_listing(list: &[Edge], n: usize) -> bool
     true
 }
 
-// Clears the first n places of the table.
-fn clear_heads(table: &mut [u16], n: usize)
-    requires { n ≤ length table.old }
-    ensures { (k : ℕ) → slice_index table.new k ≡ (if nat_lt k n then 0 else slice_index table.old k) }
-{
-    for k in 0..n {
-        table[k] = 0;
-    }
-}
-
 // Fills the table: the last edge of each vertex, and the edge before each edge at either end.
 pub fn chain(list: &[Edge], n: usize, table: &mut [u16])
     requires listing { Listing n list.now }
@@ -173,7 +163,7 @@ pub fn chain(list: &[Edge], n: usize, table: &mut [u16])
     requires long { 33792 ≤ length table.old }
     ensures { Chained n list.now table.new }
 {
-    clear_heads(table, n);
+    table[..n].fill(0);
     for j in 0..list.len() {
         let a = list[j].a as usize;
         let b = list[j].b as usize;

@@ -8,8 +8,8 @@ ghost use Rattle.items.specs.Marks.{Clear, Same, Wiped};
 ghost use Rattle.peeling.specs.Peeling.{Fits, IsTooLarge, PeelRefused, Tables};
 
 use graph::refusal::Refusal;
-use items::Peeled;
-use tables::{first_weak, lower, lowest, push_fallen, revive, wipe};
+use items::{Peeled, wipe};
+use tables::{first_weak, lower, lowest, push_fallen, revive};
 
 mod tables;
 

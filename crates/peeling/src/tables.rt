@@ -4,17 +4,6 @@ ghost use Rattle.finite.specs.Finite.{count, has};
 ghost use Rattle.supports.specs.Peel.{alive};
 ghost use Rattle.supports.proofs.Queues.{Queue, lesser, fallen};
 ghost use Rattle.supports.proofs.Descents.{LowestCount};
-ghost use Rattle.items.specs.Marks.{Wiped};
-
-// Clears the first n marks.
-pub fn wipe(marks: &mut [u8], n: usize)
-    requires { n ≤ length marks.old }
-    ensures { Wiped n marks.old marks.new }
-{
-    for k in 0..n {
-        marks[k] = 0;
-    }
-}
 
 // Queues the living items with a count below `least`. Returns how many they are.
 pub fn first_weak(living: &[u8], counts: &[u16], n: usize, least: usize, taken: &mut [u16]) -> usize
