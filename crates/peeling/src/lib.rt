@@ -1,7 +1,7 @@
 //! Peeling: taking out items with little support until none is left.
 #![tactic(auto)]
 
-ghost use Rattle.std.specs.Prelude.{◌≡◌, ◌≤◌, length, MatchOption, MatchResult};
+ghost use Rattle.std.specs.Prelude.{◌≡◌, ◌≤◌, length, MatchResult};
 ghost use Rattle.supports.specs.Peel.{Counted, PeeledIn};
 ghost use Rattle.supports.specs.Levels.{DeepestIn};
 ghost use Rattle.items.specs.Marks.{Clear, Same, Wiped};
@@ -74,17 +74,43 @@ fn drain<T, P: Peeled<T>>(
     tail
 }
 
-// What refuses n items with `room` marks in buffers of these lengths.
-fn refusal(n: usize, room: usize, living: usize, marks: usize, taken: usize) -> Option<Refusal>
-    ensures { MatchOption result (Fits n room living marks taken) (IsTooLarge n room living marks taken) }
+// Whether n items with `room` marks fit buffers of these lengths.
+fn check(n: usize, room: usize, living: usize, marks: usize, taken: usize) -> Result<(), Refusal>
+    ensures { MatchResult result (λ _. Fits n room living marks taken) (IsTooLarge n room living marks taken) }
 {
     if n > MOST {
-        return Some(Refusal::TooLarge);
+        return Err(Refusal::TooLarge);
     }
     if living < n || marks < room || taken < n {
-        return Some(Refusal::ShortBuffer);
+        return Err(Refusal::ShortBuffer);
     }
-    None
+    Ok(())
+}
+
+// Fills the table, clears the marks and counts the supports, or refuses.
+fn prepare<T, P: Peeled<T>>(
+    pool: &P,
+    list: &[T],
+    table: &mut [u16],
+    living: &[u8],
+    marks: &mut [u8],
+    counts: &mut [u16],
+    taken: usize,
+) -> Result<(), Refusal>
+    requires room { 33792 ≤ length table.old }
+    requires counted { 16384 ≤ length counts.old }
+    ensures ready { MatchResult result (λ _. P.Peeled.indexed pool.now list.now table.new × Counted (P.Peeled.support pool.now list.now) (P.Peeled.items pool.now list.now) living.now counts.new × Wiped (P.Peeled.room pool.now list.now) marks.old marks.new) (λ _. marks.new ≡ marks.old) }
+    ensures refused { MatchResult result (λ _. Fits (P.Peeled.items pool.now list.now) (P.Peeled.room pool.now list.now) (length living.now) (length marks.old) taken × P.Peeled.proper pool.now list.now) (λ x. PeelRefused (P.Peeled.items pool.now list.now) (P.Peeled.room pool.now list.now) (P.Peeled.proper pool.now list.now) (length living.now) (length marks.old) taken x) }
+{
+    let n = pool.item_count(list);
+    let room = pool.mark_count(list);
+    check(n, room, living.len(), marks.len(), taken)?;
+    if !pool.index(list, table) {
+        return Err(Refusal::Unordered);
+    }
+    wipe(marks, room);
+    count_all(pool, list, table, living, marks, counts);
+    Ok(())
 }
 
 /// Takes out items with a support below `least` until no living item has one. The items whose byte in `living` is
@@ -100,19 +126,18 @@ pub fn peel<T, P: Peeled<T>>(
     ensures cases { MatchResult result (λ len. PeeledIn (P.Peeled.support pool.now list.now) (P.Peeled.items pool.now list.now) least living.old living.new taken.old taken.new len × Wiped (P.Peeled.room pool.now list.now) marks.old marks.new) (λ _. (living.new ≡ living.old) × (marks.new ≡ marks.old) × (taken.new ≡ taken.old)) }
     ensures refused { MatchResult result (λ _. Fits (P.Peeled.items pool.now list.now) (P.Peeled.room pool.now list.now) (length living.old) (length marks.old) (length taken.old) × P.Peeled.proper pool.now list.now) (λ x. PeelRefused (P.Peeled.items pool.now list.now) (P.Peeled.room pool.now list.now) (P.Peeled.proper pool.now list.now) (length living.old) (length marks.old) (length taken.old) x) }
 {
-    let n = pool.item_count(list);
-    let room = pool.mark_count(list);
-    if let Some(e) = refusal(n, room, living.len(), marks.len(), taken.len()) {
-        return Err(e);
-    }
     let mut table = [0u16; 33792];
-    if !pool.index(list, &mut table) {
-        return Err(Refusal::Unordered);
-    }
     let mut counts = [0u16; 16384];
+    prepare(
+        pool,
+        list,
+        &mut table,
+        living,
+        marks,
+        &mut counts,
+        taken.len(),
+    )?;
     let mut out = [0u16; 16384];
-    wipe(marks, room);
-    count_all(pool, list, &table, living, marks, &mut counts);
     Ok(drain(
         pool,
         list,
@@ -166,20 +191,11 @@ pub fn deepest<T, P: Peeled<T>>(
     ensures cases { MatchResult result (λ k. DeepestIn (P.Peeled.support pool.now list.now) (P.Peeled.items pool.now list.now) living.old living.new k × Wiped (P.Peeled.room pool.now list.now) marks.old marks.new) (λ _. (living.new ≡ living.old) × (marks.new ≡ marks.old)) }
     ensures refused { MatchResult result (λ _. Fits (P.Peeled.items pool.now list.now) (P.Peeled.room pool.now list.now) (length living.old) (length marks.old) 16384 × P.Peeled.proper pool.now list.now) (λ x. PeelRefused (P.Peeled.items pool.now list.now) (P.Peeled.room pool.now list.now) (P.Peeled.proper pool.now list.now) (length living.old) (length marks.old) 16384 x) }
 {
-    let n = pool.item_count(list);
-    let room = pool.mark_count(list);
-    if let Some(e) = refusal(n, room, living.len(), marks.len(), MOST) {
-        return Err(e);
-    }
     let mut table = [0u16; 33792];
-    if !pool.index(list, &mut table) {
-        return Err(Refusal::Unordered);
-    }
     let mut counts = [0u16; 16384];
+    prepare(pool, list, &mut table, living, marks, &mut counts, MOST)?;
     let mut taken = [0u16; 16384];
     let mut out = [0u16; 16384];
-    wipe(marks, room);
-    count_all(pool, list, &table, living, marks, &mut counts);
     Ok(descend(
         pool,
         list,
