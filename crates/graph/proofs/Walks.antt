@@ -6,7 +6,7 @@ use Rattle.std.proofs.lemmas.List.Elements.{filter-append}
 use Rattle.std.proofs.lemmas.Iterator.{YieldsList}
 use Rattle.std.proofs.lemmas.Iterator.Consumers.{YieldsList-from_shown}
 use Rattle.finite.specs.Finite.{count, members, nth}
-use Rattle.finite.proofs.Members.{length_members, members_at}
+use Rattle.finite.proofs.Members.{length_members, members_at, members_same}
 use Rattle.graph.specs.Graph.{Graph, Lawful, held, clash, degree}
 use Rattle.graph.specs.Hiding.{without}
 use Rattle.graph.specs.Neighbours.{Steps, left}
@@ -52,11 +52,6 @@ filter_members p q (suc n) =
     one true = refl
     one false = refl
 
-pub members_same : (p q : ℕ → Bool) (n : ℕ) → ((b : ℕ) → b < n → p b ≡ q b) → members p n ≡ members q n
-unfolding members
-members_same p q zero e = refl
-members_same p q (suc n) e = rw (e n (omega arith), members_same p q n (λ b l. e b (omega arith))) refl
-
 -- the neighbours below that are not hidden are those that are left of a vertex that is held
 pub members_left : (g : Graph) (h : ℕ → Bool) (c : ℕ) → true ≡ held (without g h) c → filter (λ b. not (h b)) (members (clash g c) g.size) ≡ members (clash (without g h) c) g.size
 members_left g h c e =
@@ -95,8 +90,8 @@ module _ {X : Type 0} (graph : X → Graph) (vertex passed : X → ℕ) where
   serves_from_neighbours {P} {R} {Q} {s} {p} stays h =
       record {
         at = λ xs t q x u y c e.
-          let b : x < (graph s).size = subst (λ (w : Graph). x < w.size) (stays_there xs s t y) e.2.0 in
-          subst (λ k. Q k x) (sym (unmoved xs q c)) (h x b);
+            let b : x < (graph s).size = subst (λ (w : Graph). x < w.size) (stays_there xs s t y) e.2.0 in
+            subst (λ k. Q k x) (sym (unmoved xs q c)) (h x b);
       }
     where
       unmoved : (xs : List ℕ) (q : P) → FoldsTo R p xs q → q ≡ p

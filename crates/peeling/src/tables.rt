@@ -72,17 +72,7 @@ pub fn lowest(living: &[u8], counts: &[u16], n: usize) -> Option<u16>
     requires counted { n ≤ length counts.now }
     ensures { MatchOption result ((c : ℕ) → alive n living.now c ≡ false) (LowestCount n living.now counts.now) }
 {
-    let mut best: Option<u16> = None;
-    for c in 0..n {
-        if living[c] == 1 {
-            let with = counts[c];
-            best = match best {
-                Some(b) => Some(b.min(with)),
-                None => Some(with),
-            };
-        }
-    }
-    best
+    (0..n).filter(|c| living[*c] == 1).map(|c| counts[c]).min()
 }
 
 // Writes 1 at each of the first len items of `taken`.

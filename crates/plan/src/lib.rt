@@ -5,7 +5,7 @@ ghost use Rattle.std.specs.Prelude.{◌≡◌, ℕ, ◌<◌, ◌≤◌, true, fa
 ghost use Rattle.graph.specs.Graph.{held};
 ghost use Rattle.colourings.specs.Theorems.{CliqueNeeds};
 ghost use Rattle.degeneracy.specs.Order.{met, IsOrder};
-ghost use Rattle.degeneracy.specs.Greedy.{Lowest, IsPlan, Marked, coloured_near};
+ghost use Rattle.degeneracy.specs.Greedy.{IsPlan};
 ghost use Rattle.plan.specs.Plan.{PlannedIn, PlanRefused, OnePlan};
 
 use first_fit::lowest_free;

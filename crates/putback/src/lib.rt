@@ -5,7 +5,6 @@ ghost use Rattle.std.specs.Prelude.{◌≡◌, ℕ, ◌<◌, ◌≤◌, true, fa
 ghost use Rattle.degeneracy.specs.Greedy.{Lowest};
 ghost use Rattle.finite.specs.Finite.{has};
 ghost use Rattle.graph.specs.Graph.{held};
-ghost use Rattle.peels.specs.Marks.{Marked};
 ghost use Rattle.putback.specs.Backs.{AllBelow, BackIn, BackRefused, Laid, LayRefused};
 
 use first_fit::lowest_free;
