@@ -67,8 +67,8 @@ fn drain<T, P: Peeled<T>>(
         let x = taken[head] as usize;
         let lost = pool.losers(list, table, x, living, marks, out);
         living[x] = 0;
-        lower(out, lost, n, counts);
-        tail = push_fallen(out, lost, n, counts, least, taken, tail);
+        lower(&out[..lost], n, counts);
+        tail = push_fallen(&out[..lost], n, counts, least, taken, tail);
         head += 1;
     }
     tail
@@ -177,7 +177,7 @@ fn descend<T, P: Peeled<T>>(
         next = low as usize + 1;
         len = drain(pool, list, table, next, living, marks, counts, taken, out);
     }
-    revive(taken, len, living);
+    revive(&taken[..len], living);
     next.saturating_sub(1)
 }
 
