@@ -41,6 +41,8 @@ fn before(list: &[Edge], table: &[u16], e: usize, u: usize) -> usize
     }
 }
 
+// By hand: a struct of list, table, living bytes and n was tried, and the proof that its invariant is a proposition did
+// not close.
 // Turns the mark `from` into `to` at each vertex that a living edge joins to u, and counts them.
 pub fn raise(
     list: &[Edge],
@@ -101,6 +103,7 @@ pub fn gather(
         let e = at - 1;
         let w = far_end(list[e], u);
         if lives(living, e) && marks[w] == value {
+            // By hand: the buffer is the caller's.
             out[len] = e as u16;
             len += 1;
         }
@@ -156,7 +159,8 @@ pub fn is_listing(list: &[Edge], n: usize) -> bool
     true
 }
 
-// Fills the table: the last edge of each vertex, and the edge before each edge at either end.
+// Fills the table: the last edge of each vertex, and the edge before each edge at either end. By hand: the trait lends
+// one table of u16, so 0 stands for no edge, and e + 1 for edge e.
 pub fn chain(list: &[Edge], n: usize, table: &mut [u16])
     requires listing { Listing n list.now }
     requires few { length list.now ≤ 16384 }
@@ -164,6 +168,7 @@ pub fn chain(list: &[Edge], n: usize, table: &mut [u16])
     ensures { Chained n list.now table.new }
 {
     table[..n].fill(0);
+    // By hand: j is a place of the table too.
     for j in 0..list.len() {
         let a = list[j].a as usize;
         let b = list[j].b as usize;

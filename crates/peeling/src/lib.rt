@@ -39,6 +39,7 @@ fn count_all<T, P: Peeled<T>>(
     }
 }
 
+// By hand: what goes together here is lent by three callers, some of it anew each time.
 // Takes out items with a support below `least` until none is left. Whoever falls below it is queued in `taken`
 // behind those that are taken out already. Returns how many were taken out.
 fn drain<T, P: Peeled<T>>(
