@@ -1,42 +1,24 @@
 // Listing the edges of a graph, smaller end first, rising.
 ghost use Rattle.std.specs.Prelude.{◌≡◌, ℕ, ◌+◌, ◌<◌, ◌≤◌, ◌++◌, length, take, drop};
-ghost use Rattle.graph.specs.Edges.{edge, edges_at};
+ghost use Rattle.graph.specs.Edges.{edges_at};
 ghost use Rattle.caps.specs.Cap.{edge_count, EdgesIn};
 
 use graph::edge::Edge;
+use graph::neighbours::Neighbours;
 use graph::{Listed, Source};
-
-// The edge from a to b.
-fn pair(a: u16, b: u16) -> Edge
-    ensures { result ≡ edge a b }
-{
-    Edge { a, b }
-}
 
 // How many neighbours above it a has.
 fn count_later<S: Listed>(source: &S, a: usize) -> usize
     ensures { result ≡ length (edges_at (S.Source.graph source.now) a) }
 {
-    let mut total = 0;
-    for i in 0..source.degree(a) {
-        if let Some(b) = source.neighbour(a, i) {
-            if a < b {
-                total += 1;
-            }
-        }
-    }
-    total
+    Neighbours::of(source, a).filter(|b| a < *b).count()
 }
 
 // How many edges there are.
 pub fn edge_total<S: Listed>(source: &S) -> usize
     ensures { result ≡ edge_count (S.Source.graph source.now) }
 {
-    let mut total = 0;
-    for a in 0..source.size() {
-        total += count_later(source, a);
-    }
-    total
+    (0..source.size()).map(|a| count_later(source, a)).sum()
 }
 
 // Writes from place `start` on the edges whose smaller end is a. Returns the place after them.
@@ -48,12 +30,14 @@ fn write_row<S: Listed>(source: &S, a: usize, clashes: &mut [Edge], start: usize
     ensures rest { drop result clashes.new ≡ drop result clashes.old }
 {
     let mut len = start;
-    for i in 0..source.degree(a) {
-        if let Some(b) = source.neighbour(a, i) {
-            if a < b {
-                clashes[len] = pair(a as u16, b as u16);
-                len += 1;
-            }
+    for b in Neighbours::of(source, a) {
+        if a < b {
+            // By hand: the buffer is the caller's, and only its front is written.
+            clashes[len] = Edge {
+                a: a as u16,
+                b: b as u16,
+            };
+            len += 1;
         }
     }
     len

@@ -1,7 +1,7 @@
 //! A bound on the cliques of a graph: the smaller of degeneracy + 1 and community number + 2.
 #![tactic(auto)]
 
-ghost use Rattle.std.specs.Prelude.{◌≡◌, ℕ, ◌≤◌, min, length, if◌then◌else◌, MatchOption, MatchResult, nat_lt, slice_index};
+ghost use Rattle.std.specs.Prelude.{◌≡◌, length, MatchResult};
 ghost use Rattle.caps.specs.Cap.{CappedIn, CapFits, CapRefused};
 
 use communities::Below;
@@ -14,35 +14,18 @@ use peeling::{MOST, deepest};
 
 mod edges;
 
-// Writes v in the first m places.
-fn fill(bytes: &mut [u8], m: usize, v: u8)
-    requires { m ≤ length bytes.old }
-    ensures { (c : ℕ) → slice_index bytes.new c ≡ (if nat_lt c m then v else slice_index bytes.old c) }
-{
-    for c in 0..m {
-        bytes[c] = v;
-    }
-}
-
-// The smaller of two numbers.
-fn smaller(a: usize, b: usize) -> usize
-    ensures { result ≡ min a b }
-{
-    if a < b { a } else { b }
-}
-
-// What refuses m edges and n vertices in buffers of these lengths.
-fn refusal<S: Listed>(source: &S, clashes: usize, living: usize, marks: usize) -> Option<Refusal>
-    ensures { MatchOption result (CapFits (S.Source.graph source.now) clashes living marks) (CapRefused (S.Source.graph source.now) clashes living marks) }
+// Whether the edges and vertices fit buffers of these lengths.
+fn check<S: Listed>(source: &S, clashes: usize, living: usize, marks: usize) -> Result<(), Refusal>
+    ensures { MatchResult result (λ _. CapFits (S.Source.graph source.now) clashes living marks) (CapRefused (S.Source.graph source.now) clashes living marks) }
 {
     let m = edge_total(source);
     if m > MOST {
-        return Some(Refusal::TooLarge);
+        return Err(Refusal::TooLarge);
     }
     if clashes < m || living < m || marks < source.size() {
-        return Some(Refusal::ShortBuffer);
+        return Err(Refusal::ShortBuffer);
     }
-    None
+    Ok(())
 }
 
 /// The bound on the cliques of a graph: 0 without vertices, 1 without edges, else the smaller of degeneracy + 1 and
@@ -57,12 +40,10 @@ pub fn cap<S: Listed>(
     ensures cases { MatchResult result (λ top. CappedIn (S.Source.graph source.now) clashes.old clashes.new living.old living.new marks.old marks.new top) (λ _. (clashes.new ≡ clashes.old) × (living.new ≡ living.old) × (marks.new ≡ marks.old)) }
     ensures refused { MatchResult result (λ _. CapFits (S.Source.graph source.now) (length clashes.old) (length living.old) (length marks.old)) (λ x. CapRefused (S.Source.graph source.now) (length clashes.old) (length living.old) (length marks.old) x) }
 {
-    if let Some(e) = refusal(source, clashes.len(), living.len(), marks.len()) {
-        return Err(e);
-    }
+    check(source, clashes.len(), living.len(), marks.len())?;
     let n = source.size();
     let m = write_edges(source, clashes);
-    fill(marks, n, 0);
+    marks[..n].fill(0);
     let found = degeneracy(source);
     if found.len == 0 {
         return Ok(0);
@@ -70,10 +51,8 @@ pub fn cap<S: Listed>(
     if m == 0 {
         return Ok(1);
     }
-    fill(living, m, 1);
+    living[..m].fill(1);
     let pool = Below { size: n };
-    let Ok(number) = deepest(&pool, &clashes[0..m], living, marks) else {
-        return Err(Refusal::ShortBuffer);
-    };
-    Ok(smaller(found.degeneracy + 1, number + 2))
+    let number = deepest(&pool, &clashes[0..m], living, marks)?;
+    Ok((found.degeneracy + 1).min(number + 2))
 }

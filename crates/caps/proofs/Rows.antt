@@ -5,18 +5,12 @@ use Rattle.std.proofs.lemmas.Bool.{cases_Bool, cases_eq, cases_lt, and_parts, or
 use Rattle.std.proofs.lemmas.Bool.Decides.{nat_tests}
 use Rattle.finite.specs.Finite.{count, members}
 use Rattle.finite.proofs.Counts.{count_le, count_mono}
-use Rattle.finite.proofs.Members.{length_members}
+use Rattle.finite.proofs.Members.{length_members, members_same}
 use Rattle.finite.proofs.Rising.{count_up}
 use Rattle.graph.specs.declared.edge.Edge.{Edge}
 use Rattle.graph.specs.Graph.{Graph, clash, inside, degree}
 use Rattle.graph.specs.Edges.{edge, edges_at, edges_below}
 use Rattle.cohesion.proofs.Near.{near, AtRank, near_none, near_yes, near_no, near_all}
-
-members_same : (p q : ℕ → Bool) (n : ℕ) → ((c : ℕ) → c < n → p c ≡ q c) → members p n ≡ members q n
-unfolding members
-members_same p q zero f = refl
-members_same p q (suc n) f =
-    ap (λ (l : List ℕ). l ++ cond (p n) (n ∷ []) []) (members_same p q n (λ c l. f c (omega arith))) ∙ ap (λ (b : Bool). members q n ++ cond b (n ∷ []) []) (f n (omega arith))
 
 members_none : (p : ℕ → Bool) (n : ℕ) → ((c : ℕ) → p c ≡ false) → members p n ≡ []
 unfolding members

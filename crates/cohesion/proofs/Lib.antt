@@ -5,3 +5,4 @@ pub mod Chains
 pub mod Raises
 pub mod Rounds
 pub mod Bridge
+pub mod Props

@@ -4,7 +4,7 @@ use Rattle.std.proofs.lemmas.List.{length-take-le}
 use Rattle.std.proofs.lemmas.Bool.{cases_Bool, cases_eq, cases_lt, both_ways, and_parts, and_from, and_left, and_right, lt-ltb, le-ltb, eq-eqb, ne_eqb, cond-true, cond-false}
 use Rattle.std.proofs.lemmas.Bool.Decides.{nat_tests}
 use Rattle.finite.specs.Finite.{count, has}
-use Rattle.finite.proofs.Counts.{count_same, count_less, count_empty, has_none}
+use Rattle.finite.proofs.Counts.{has_none}
 use Rattle.finite.proofs.Members.{count_rise, rank_one}
 use Rattle.graph.specs.Graph.{Graph, Lawful, clash, inside, degree}
 use Rattle.graph.proofs.Graphs.{held_below, clash_right, inside_less_yes, inside_less_no}
@@ -70,20 +70,6 @@ near_all g s x j e c =
       | inr y ↦ and_left (clash g x c) (ltb (count (clash g x) c) j && s c) y ∙ sym (and_right (s c) (clash g x c) y)
       | inl y ↦ let l = lt-ltb (count (clash g x) c) j (omega (arith, count_rise (clash g x) c g.size (held_below g c (clash_right g x c y)) y)) in grind (arith, nat_tests)
     ]
-
-pub near_count_none : (g : Graph) (s : ℕ → Bool) (x : ℕ) → count (near g s x 0) g.size ≡ 0
-near_count_none g s x = count_empty (near g s x 0) g.size (λ c l. near_none g s x c)
-
-pub near_count_yes : (g : Graph) (s : ℕ → Bool) (x j b : ℕ) → AtRank g x j b → s b ≡ true → count (near g s x (j + 1)) g.size ≡ count (near g s x j) g.size + 1
-near_count_yes g s x j b r y =
-    count_less (near g s x (j + 1)) (near g s x j) b g.size r.0 (near_here g s x j b r ∙ y) (near_out g s x j b r) (λ c ne. near_step g s x j b c r ne)
-
-pub near_count_no : (g : Graph) (s : ℕ → Bool) (x j b : ℕ) → AtRank g x j b → s b ≡ false → count (near g s x (j + 1)) g.size ≡ count (near g s x j) g.size
-near_count_no g s x j b r y = count_same (near g s x (j + 1)) (near g s x j) g.size (λ c l. near_no g s x j b r y c)
-
-pub near_count_all : (g : Graph) (s : ℕ → Bool) (x j : ℕ) → j ≡ degree g x → count (near g s x j) g.size ≡ inside g s x
-unfolding inside
-near_count_all g s x j e = count_same (near g s x j) (λ c. s c && clash g x c) g.size (λ c l. near_all g s x j e c)
 
 -- the living neighbours of x lose a support when x goes
 pub near_losers : (g : Graph) → Lawful g → (s : ℕ → Bool) (x j : ℕ) (old out : List ℕ) (len : ℕ) → s x ≡ true → j ≡ degree g x → Queue g.size (near g s x j) old out 0 len → len ≤ length out → Losers (inside g) g.size s x (take len out)

@@ -37,6 +37,7 @@ last_at list u (suc j) = cond (touches (edge_at list j) u) (suc j) (last_at list
 pub record Listing (n : ℕ) (list : List Edge) : Type 0 where
   pub small : n ≤ 1024
   pub rising : Rising n None list
+  deriving IsProp as Listing_prop
 
 -- the table leads from each vertex to its last edge, and from each edge to the one before it at either end
 pub record Chained (n : ℕ) (list : List Edge) (table : List ℕ) : Type 0 where
@@ -46,3 +47,4 @@ pub record Chained (n : ℕ) (list : List Edge) (table : List ℕ) : Type 0 wher
   pub heads : (u : ℕ) → u < n → slice_index table u ≡ last_at list u (length list)
   pub firsts : (e : ℕ) → e < length list → slice_index table (1024 + e) ≡ last_at list (edge_at list e).a e
   pub seconds : (e : ℕ) → e < length list → slice_index table (17408 + e) ≡ last_at list (edge_at list e).b e
+  deriving IsProp as Chained_prop

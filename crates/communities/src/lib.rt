@@ -9,19 +9,10 @@ ghost use Rattle.cohesion.specs.Common.{linked, common, Listing, Chained};
 ghost use Rattle.cohesion.proofs.Links.{common_falls};
 
 use graph::edge::Edge;
-use items::Peeled;
-use walks::{chain, is_listing, raise, triangles};
+use items::{Peeled, wipe};
+use walks::{Edges, chain, is_listing};
 
 mod walks;
-
-// Clears the first n marks.
-fn wipe(marks: &mut [u8], n: usize)
-    ensures { Wiped n marks.old marks.new }
-{
-    for k in 0..n.min(marks.len()) {
-        marks[k] = 0;
-    }
-}
 
 // Lent marks, of which the first `size` are cleared when they are given back.
 struct Marks<'a> {
@@ -89,8 +80,14 @@ impl Peeled<Edge> for Below {
             bytes: marks,
             size: n,
         };
-        raise(list, table, living, edge.a as usize, n, guard.bytes, 0, 1);
-        raise(list, table, living, edge.b as usize, n, guard.bytes, 1, 2)
+        let edges = Edges {
+            list,
+            table,
+            living,
+            n,
+        };
+        edges.raise(edge.a as usize, guard.bytes, 0, 1);
+        edges.raise(edge.b as usize, guard.bytes, 1, 2)
     }
 
     fn losers(
@@ -107,6 +104,12 @@ impl Peeled<Edge> for Below {
             bytes: marks,
             size: n,
         };
-        triangles(list, table, living, x, n, guard.bytes, out)
+        let edges = Edges {
+            list,
+            table,
+            living,
+            n,
+        };
+        edges.triangles(x, guard.bytes, out)
     }
 }

@@ -16,7 +16,8 @@ fn fill_held<S: Source>(source: &S, living: &mut [u8])
     ensures { (c : ℕ) → slice_index living.new c ≡ (if nat_lt c (S.Source.graph source.now).size then (if held (S.Source.graph source.now) c then 1 else 0) else slice_index living.old c) }
 {
     for c in 0..source.size() {
-        living[c] = if source.holds(c) { 1 } else { 0 };
+        // By hand: the number is asked of the source too.
+        living[c] = u8::from(source.holds(c));
     }
 }
 

@@ -3,4 +3,3 @@ pub mod Removal
 pub mod Ranks
 pub mod Cores
 pub mod Plans
-pub mod Marks

@@ -1,5 +1,5 @@
 -- The greedy colouring: back through an order, each vertex gets the lowest colour from 1 that no neighbour has.
-use Rattle.std.specs.Prelude.{◌≡◌, ℕ, ◌<◌, ◌≤◌, Bool, true, false, not, ◌&&◌, List, length, take, ◌==◌, ◌≢◌, slice_index, slice_index_or}
+use Rattle.std.specs.Prelude.{◌≡◌, ℕ, ◌<◌, ◌≤◌, Bool, true, false, not, ◌&&◌, List, length, take, ◌==◌, ◌≢◌, slice_index}
 use Rattle.finite.specs.Finite.{count}
 use Rattle.graph.specs.Graph.{Graph, held, clash}
 use Rattle.degeneracy.specs.Order.{survivors}
@@ -18,9 +18,3 @@ pub record IsPlan (g : Graph) (p : List ℕ) (col : ℕ → ℕ) : Type 0 where
 -- how many neighbours of x have a colour
 unfoldable pub coloured_near : Graph → List ℕ → ℕ → ℕ
 coloured_near g paint x = count (λ b. clash g x b && not (slice_index paint b == 0)) g.size
-
--- the table says of each colour below 65 whether a neighbour of x has it
-pub record Marked (g : Graph) (x : ℕ) (paint : List ℕ) (taken : List Bool) : Type 0 where
-  pub long : length taken ≡ 65
-  pub worn : (k : ℕ) → k < 65 → slice_index_or taken k false ≡ true → (b : ℕ) × (clash g x b ≡ true) × (slice_index paint b ≡ k)
-  pub done : (b : ℕ) → clash g x b ≡ true → slice_index_or taken (slice_index paint b) false ≡ true

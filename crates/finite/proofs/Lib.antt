@@ -6,3 +6,5 @@ pub mod Pairs
 pub mod Pigeons
 pub mod Rising
 pub mod Splits
+pub mod Tables
+pub mod Walking

@@ -1,12 +1,9 @@
 -- Hiding and showing, and the neighbours that are left.
-use Rattle.std.proofs.Common.{◌≡◌, ℕ, zero, suc, ◌+◌, ◌<◌, ◌≤◌, Bool, true, false, cond, not, ◌&&◌, ◌||◌, eqb, ltb, List, length, get_or, set, replicate, Some, sym, refl, ap, ◌∙◌, inl, inr, arith}
+use Rattle.std.proofs.Common.{◌≡◌, ℕ, zero, suc, ◌<◌, ◌≤◌, Bool, true, false, cond, not, ◌&&◌, ◌||◌, eqb, ltb, List, length, set, replicate, sym, refl, ap, ◌∙◌, inl, inr, arith}
 use Rattle.std.proofs.lemmas.List.{get_or_past, get_or-set_same, get_or-set_other}
-use Rattle.std.proofs.lemmas.Bool.{cases_Bool, and_left, and_from, cases_eq, eq-eqb, ne_eqb}
-use Rattle.finite.specs.Finite.{count, members, nth}
-use Rattle.finite.proofs.Counts.{count_same, count_empty, count_le, count_more}
-use Rattle.finite.proofs.Members.{members_some}
-use Rattle.finite.proofs.Rising.{count_picked, picked_rank, nth-get_or}
-use Rattle.graph.specs.Graph.{Graph, Lawful, Ranked, held, clash, degree}
+use Rattle.std.proofs.lemmas.Bool.{cases_Bool, and_left, cases_eq, eq-eqb, ne_eqb}
+use Rattle.finite.proofs.Counts.{count_empty}
+use Rattle.graph.specs.Graph.{Graph, Lawful, held, clash, degree}
 use Rattle.graph.specs.Hiding.{marked, without, Hides, Shows}
 
 -- the edges that are left
@@ -53,53 +50,6 @@ clash_unheld g c b e = and_left (held g c) (held g b && g.joined c b) e
 pub unheld_degree : (g : Graph) (c : ℕ) → false ≡ held g c → 0 ≡ degree g c
 unfolding degree
 unheld_degree g c e = sym (count_empty (clash g c) g.size (λ b _. clash_unheld g c b (sym e)))
-
--- how many of the first i neighbours of c in g are not hidden
-pub left : Graph → (ℕ → Bool) → ℕ → ℕ → ℕ
-left g h c i = count (λ k. not (h (get_or (members (clash g c) g.size) k 0))) i
-
-pub left_degree : (g : Graph) (h : ℕ → Bool) (c : ℕ) → true ≡ held (without g h) c → left g h c (degree g c) ≡ degree (without g h) c
-unfolding left degree
-left_degree g h c e =
-    count_picked (clash g c) (λ b. not (h b)) g.size ∙ count_same (λ b. clash g c b && not (h b)) (clash (without g h) c) g.size (λ b _. sym (clash_held g h c b (sym e)))
-
-pub left_none : (g : Graph) (h : ℕ → Bool) (c : ℕ) → 0 ≡ left g h c 0
-unfolding left count
-left_none g h c = refl
-
-pub left_le : (g : Graph) (h : ℕ → Bool) (c i : ℕ) → left g h c i ≤ i
-unfolding left
-left_le g h c i = count_le (λ k. not (h (get_or (members (clash g c) g.size) k 0))) i
-
--- one neighbour more
-pub left_more : (g : Graph) (h : ℕ → Bool) (c i b : ℕ) → Some b ≡ nth (members (clash g c) g.size) i → left g h c (i + 1) ≡ cond (h b) (left g h c i) (left g h c i + 1)
-unfolding left
-left_more g h c i b e =
-    let q : ℕ → Bool = λ k. not (h (get_or (members (clash g c) g.size) k 0)) in
-    let d = nth-get_or (members (clash g c) g.size) i b (sym e) in
-    count_more q i ∙ rw d (flip (h b) (count q i))
-  where
-    flip : (x : Bool) (n : ℕ) → cond (not x) (n + 1) n ≡ cond x n (n + 1)
-    flip true n = refl
-    flip false n = refl
-
-pub left_hidden : (g : Graph) (h : ℕ → Bool) (c i b : ℕ) → Some b ≡ nth (members (clash g c) g.size) i → true ≡ h b → left g h c (i + 1) ≡ left g h c i
-left_hidden g h c i b e x = left_more g h c i b e ∙ rw (sym x) refl
-
-pub left_shown : (g : Graph) (h : ℕ → Bool) (c i b : ℕ) → Some b ≡ nth (members (clash g c) g.size) i → false ≡ h b → left g h c (i + 1) ≡ left g h c i + 1
-left_shown g h c i b e x = left_more g h c i b e ∙ rw (sym x) refl
-
--- the neighbour that has i before it
-pub left_rank : (g : Graph) (h : ℕ → Bool) (c k b i : ℕ) → true ≡ held (without g h) c → Some b ≡ nth (members (clash g c) g.size) k → false ≡ h b → left g h c k ≡ i → Ranked (without g h) c i b
-unfolding left
-left_rank g h c k b i d f x j =
-    let e = sym d in
-    let r = members_some (clash g c) g.size k b (sym f) in
-    record {
-      within = r.0;
-      joined = clash_held g h c b e ∙ and_from (clash g c b) (not (h b)) r.1 (ap not (sym x));
-      rank = count_same (clash (without g h) c) (λ d. clash g c d && not (h d)) b (λ d _. clash_held g h c d e) ∙ sym (picked_rank (clash g c) (λ d. not (h d)) g.size k b (sym f)) ∙ j;
-    }
 
 -- hiding and showing one vertex
 pub hides_one : (g : Graph) (h h' : ℕ → Bool) (c : ℕ) → ((k : ℕ) → h' k ≡ (h k || eqb k c)) → Hides (without g h) (without g h') c

@@ -4,7 +4,7 @@
 ghost use Rattle.std.specs.Prelude.{◌≡◌, ℕ, ◌<◌, ◌≤◌, Bool, true, false, List, length, take};
 ghost use Rattle.finite.specs.Supports.{Falls};
 ghost use Rattle.supports.specs.Peel.{Losers, alive};
-ghost use Rattle.items.specs.Marks.{Clear, Same};
+ghost use Rattle.items.specs.Marks.{Clear, Same, Wiped};
 
 pub mod vertices;
 
@@ -77,4 +77,12 @@ pub trait Peeled<T> {
         ensures same { Same marks.old marks.new };
 
     ghost falls: { (x : Self) (list : List T) → Falls (support x list) };
+}
+
+/// Clears the first n marks, or all where they are fewer.
+pub fn wipe(marks: &mut [u8], n: usize)
+    ensures { Wiped n marks.old marks.new }
+{
+    let n = n.min(marks.len());
+    marks[..n].fill(0);
 }

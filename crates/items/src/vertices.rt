@@ -3,6 +3,7 @@ ghost use Rattle.graph.specs.Graph.{inside};
 ghost use Rattle.graph.proofs.Graphs.{inside_mono};
 
 use super::Peeled;
+use graph::neighbours::Neighbours;
 use graph::{Listed, Source};
 
 /// The kind of item that a vertex is: a source gives the vertices itself, so the list beside it is empty.
@@ -43,15 +44,7 @@ impl<S: Listed> Peeled<Vertex> for S {
         living: &[u8],
         _marks: &mut [u8],
     ) -> usize {
-        let mut total = 0;
-        for j in 0..self.degree(i) {
-            if let Some(b) = self.neighbour(i, j) {
-                if living[b] == 1 {
-                    total += 1;
-                }
-            }
-        }
-        total
+        Neighbours::of(self, i).filter(|b| living[*b] == 1).count()
     }
 
     fn losers(
@@ -64,12 +57,11 @@ impl<S: Listed> Peeled<Vertex> for S {
         out: &mut [u16],
     ) -> usize {
         let mut len = 0;
-        for j in 0..self.degree(x) {
-            if let Some(b) = self.neighbour(x, j) {
-                if living[b] == 1 {
-                    out[len] = b as u16;
-                    len += 1;
-                }
+        for b in Neighbours::of(self, x) {
+            if living[b] == 1 {
+                // By hand: the buffer is the caller's, and only its front is written.
+                out[len] = b as u16;
+                len += 1;
             }
         }
         len

@@ -31,13 +31,7 @@ fn before(masks: &[u64], a: usize, end: usize) -> usize
     requires { (a < length masks.now) × (end ≤ length masks.now) }
     ensures { result ≡ count (clash (sharing masks.now) a) end }
 {
-    let mut total = 0;
-    for b in 0..end {
-        if joined(masks, a, b) {
-            total += 1;
-        }
-    }
-    total
+    (0..end).filter(|b| joined(masks, a, *b)).count()
 }
 
 // The neighbour of `a` that has `i` neighbours below it.
@@ -46,16 +40,7 @@ fn ranked(masks: &[u64], a: usize, i: usize) -> Option<usize>
     ensures listed { result ≡ nth (members (clash (sharing masks.now) a) (length masks.now)) i }
     ensures ranked { MatchOption result (degree (sharing masks.now) a ≤ i) (λ b. (b < length masks.now) × (clash (sharing masks.now) a b ≡ true) × (count (clash (sharing masks.now) a) b ≡ i)) }
 {
-    let mut below = 0;
-    for b in 0..masks.len() {
-        if joined(masks, a, b) {
-            if below == i {
-                return Some(b);
-            }
-            below += 1;
-        }
-    }
-    None
+    (0..masks.len()).filter(|b| joined(masks, a, *b)).nth(i)
 }
 
 // How many edges there are.
@@ -63,11 +48,7 @@ fn edges(masks: &[u64]) -> usize
     requires { length masks.now ≤ 1024 }
     ensures { result ≡ edges (sharing masks.now) }
 {
-    let mut total = 0;
-    for a in 0..masks.len() {
-        total += before(masks, a, a);
-    }
-    total
+    (0..masks.len()).map(|a| before(masks, a, a)).sum()
 }
 
 // A mask of jobs for each vertex. Two vertices clash where they have a job in common.
@@ -100,10 +81,7 @@ impl JobForm {
         if edges(masks) > 16384 {
             return Err(Refusal::TooLarge);
         }
-        let Ok(masks) = Vec::from_slice(self.heap, masks) else {
-            return Err(Refusal::NoMemory);
-        };
-        self.masks = masks;
+        self.masks = Vec::from_slice(self.heap, masks)?;
         Ok(())
     }
 }

@@ -5,6 +5,7 @@ ghost use Rattle.std.specs.Prelude.{◌≡◌, ℕ, ◌≤◌, true, false, not,
 ghost use Rattle.graph.specs.Hiding.{without, marked, Hides, Shows, hide_answer, show_answer};
 ghost use Rattle.graph.proofs.Hiding.{lawful_without};
 
+use graph::neighbours::Neighbours;
 use graph::refusal::Refusal;
 use graph::{Listed, Source};
 
@@ -93,32 +94,17 @@ impl<S: Listed + Drop> Listed for HideLayer<S> {
         if !self.holds(c) {
             return 0;
         }
-        let mut count = 0;
-        for i in 0..self.below.degree(c) {
-            if let Some(b) = self.below.neighbour(c, i) {
-                if !self.hides(b) {
-                    count += 1;
-                }
-            }
-        }
-        count
+        Neighbours::of(&self.below, c)
+            .filter(|b| !self.hides(*b))
+            .count()
     }
 
     fn neighbour(&self, c: usize, i: usize) -> Option<usize> {
         if !self.holds(c) {
             return None;
         }
-        let mut before = 0;
-        for k in 0..self.below.degree(c) {
-            if let Some(other) = self.below.neighbour(c, k) {
-                if !self.hides(other) {
-                    if before == i {
-                        return Some(other);
-                    }
-                    before += 1;
-                }
-            }
-        }
-        None
+        Neighbours::of(&self.below, c)
+            .filter(|other| !self.hides(*other))
+            .nth(i)
     }
 }

@@ -8,8 +8,10 @@ ghost use Rattle.graph.specs.Degeneracy.{IsDegeneracy};
 ghost use Rattle.degeneracy.specs.Theorems.{OneOrder, PeakIsDegeneracy, OneDegeneracy, DegeneracyIsCore, NoneHeld};
 ghost use Rattle.order.specs.Order.{OrderedIn, OrderRefused};
 
+use graph::neighbours::Neighbours;
 use graph::refusal::Refusal;
 use graph::{Listed, Source};
+use std::array;
 
 /// The largest degeneracy that is taken.
 pub const DENSEST: usize = 63;
@@ -22,76 +24,51 @@ pub struct Ordered {
 }
 
 /// A graph has one order, whose largest count is the degeneracy, and that is the largest core number.
-pub fn orders_stand() -> u8
+pub fn orders_stand()
     ensures order { OneOrder }
     ensures peak { PeakIsDegeneracy }
     ensures one { OneDegeneracy }
     ensures core { DegeneracyIsCore }
     ensures none { NoneHeld }
-{
-    0
-}
+{}
 
 /// How many vertices the source holds.
 pub fn vertex_count<S: Source>(source: &S) -> usize
     ensures { result ≡ vertices (S.Source.graph source.now) }
 {
-    let mut total = 0;
-    for c in 0..source.size() {
-        if source.holds(c) {
-            total += 1;
-        }
-    }
-    total
+    (0..source.size()).filter(|c| source.holds(*c)).count()
 }
 
-// Writes at each number whether it is a vertex.
-fn fill_alive<S: Source>(source: &S, alive: &mut [bool])
-    requires { (S.Source.graph source.now).size ≤ length alive.old }
-    ensures { (c : ℕ) → c < (S.Source.graph source.now).size → slice_index_or alive.new c false ≡ held (S.Source.graph source.now) c }
+// At each number, whether it is a vertex.
+fn living<S: Source>(source: &S) -> [bool; 1024]
+    ensures { (c : ℕ) → c < 1024 → slice_index_or result c false ≡ held (S.Source.graph source.now) c }
 {
-    for c in 0..source.size() {
-        alive[c] = source.holds(c);
-    }
+    array::from_fn(|c| source.holds(c))
 }
 
-// Writes at each number how many neighbours it has.
-fn fill_degrees<S: Listed>(source: &S, left: &mut [u16])
-    requires { (S.Source.graph source.now).size ≤ length left.old }
-    ensures { (c : ℕ) → c < (S.Source.graph source.now).size → slice_index left.new c ≡ degree (S.Source.graph source.now) c }
+// At each number, how many neighbours it has.
+fn degrees<S: Listed>(source: &S) -> [usize; 1024]
+    ensures { (c : ℕ) → c < 1024 → slice_index result c ≡ degree (S.Source.graph source.now) c }
 {
-    for c in 0..source.size() {
-        left[c] = source.degree(c) as u16;
-    }
+    array::from_fn(|c| source.degree(c))
 }
 
 // The living number below n with the least in `left`, the lowest of those.
-fn fewest(alive: &[bool], left: &[u16], n: usize) -> Option<usize>
+fn fewest(alive: &[bool], left: &[usize], n: usize) -> Option<usize>
     requires { (n ≤ length alive.now) × (n ≤ length left.now) }
     ensures { MatchOption result ((c : ℕ) → c < n → slice_index_or alive.now c false ≡ false) (λ x. Fewest (λ c. slice_index_or alive.now c false) (λ c. slice_index left.now c) n x) }
 {
-    let mut best = None;
-    for c in 0..n {
-        if alive[c] {
-            best = match best {
-                Some(b) if left[b] <= left[c] => Some(b),
-                _ => Some(c),
-            };
-        }
-    }
-    best
+    (0..n).filter(|c| alive[*c]).min_by_key(|c| left[*c])
 }
 
 // Takes x from the counts: each neighbour of x has one fewer.
-fn take_out<S: Listed>(source: &S, x: usize, left: &mut [u16])
+fn take_out<S: Listed>(source: &S, x: usize, left: &mut [usize])
     requires fits { (S.Source.graph source.now).size ≤ length left.old }
     requires living { (c : ℕ) → c < (S.Source.graph source.now).size → clash (S.Source.graph source.now) x c ≡ true → 0 < slice_index left.old c }
     ensures { (c : ℕ) → c < (S.Source.graph source.now).size → slice_index left.old c ≡ slice_index left.new c + (if clash (S.Source.graph source.now) x c then 1 else 0) }
 {
-    for i in 0..source.degree(x) {
-        if let Some(b) = source.neighbour(x, i) {
-            left[b] -= 1;
-        }
+    for b in Neighbours::of(source, x) {
+        left[b] -= 1;
     }
 }
 
@@ -101,17 +78,13 @@ fn remove_all<S: Listed>(source: &S, order: &mut [u16]) -> Ordered
     ensures { OrderedIn (S.Source.graph source.now) order.old order.new result.len result.degeneracy }
 {
     let n = source.size();
-    let mut alive = [false; 1024];
-    let mut left = [0u16; 1024];
-    fill_alive(source, &mut alive);
-    fill_degrees(source, &mut left);
+    let mut alive = living(source);
+    let mut left = degrees(source);
     let mut len = 0;
     let mut most = 0;
     while let Some(x) = fewest(&alive, &left, n) {
-        let with = left[x] as usize;
-        if with > most {
-            most = with;
-        }
+        most = most.max(left[x]);
+        // By hand: the loop ends when no vertex lives, and the buffer is the caller's.
         order[len] = x as u16;
         len += 1;
         alive[x] = false;
@@ -120,17 +93,6 @@ fn remove_all<S: Listed>(source: &S, order: &mut [u16]) -> Ordered
     Ordered {
         len,
         degeneracy: most,
-    }
-}
-
-// Copies the first len places.
-fn copy_front(from: &[u16], to: &mut [u16], len: usize)
-    requires { (len ≤ length from.now) × (len ≤ length to.old) }
-    ensures after { take len to.new ≡ take len from.now }
-    ensures rest { drop len to.new ≡ drop len to.old }
-{
-    for i in 0..len {
-        to[i] = from[i];
     }
 }
 
@@ -156,6 +118,6 @@ pub fn removal_order<S: Listed>(source: &S, order: &mut [u16]) -> Result<Ordered
     if ordered.degeneracy > DENSEST {
         return Err(Refusal::TooDense);
     }
-    copy_front(&table, order, ordered.len);
+    order[..ordered.len].copy_from_slice(&table[..ordered.len]);
     Ok(ordered)
 }

@@ -1,15 +1,15 @@
 //! Peeling: taking out items with little support until none is left.
 #![tactic(auto)]
 
-ghost use Rattle.std.specs.Prelude.{◌≡◌, ◌≤◌, length, MatchOption, MatchResult};
+ghost use Rattle.std.specs.Prelude.{◌≡◌, ◌≤◌, length, MatchResult};
 ghost use Rattle.supports.specs.Peel.{Counted, PeeledIn};
 ghost use Rattle.supports.specs.Levels.{DeepestIn};
 ghost use Rattle.items.specs.Marks.{Clear, Same, Wiped};
 ghost use Rattle.peeling.specs.Peeling.{Fits, IsTooLarge, PeelRefused, Tables};
 
 use graph::refusal::Refusal;
-use items::Peeled;
-use tables::{first_weak, lower, lowest, push_fallen, revive, wipe};
+use items::{Peeled, wipe};
+use tables::{first_weak, lower, lowest, push_fallen, revive};
 
 mod tables;
 
@@ -39,6 +39,7 @@ fn count_all<T, P: Peeled<T>>(
     }
 }
 
+// By hand: what goes together here is lent by three callers, some of it anew each time.
 // Takes out items with a support below `least` until none is left. Whoever falls below it is queued in `taken`
 // behind those that are taken out already. Returns how many were taken out.
 fn drain<T, P: Peeled<T>>(
@@ -67,24 +68,50 @@ fn drain<T, P: Peeled<T>>(
         let x = taken[head] as usize;
         let lost = pool.losers(list, table, x, living, marks, out);
         living[x] = 0;
-        lower(out, lost, n, counts);
-        tail = push_fallen(out, lost, n, counts, least, taken, tail);
+        lower(&out[..lost], n, counts);
+        tail = push_fallen(&out[..lost], n, counts, least, taken, tail);
         head += 1;
     }
     tail
 }
 
-// What refuses n items with `room` marks in buffers of these lengths.
-fn refusal(n: usize, room: usize, living: usize, marks: usize, taken: usize) -> Option<Refusal>
-    ensures { MatchOption result (Fits n room living marks taken) (IsTooLarge n room living marks taken) }
+// Whether n items with `room` marks fit buffers of these lengths.
+fn check(n: usize, room: usize, living: usize, marks: usize, taken: usize) -> Result<(), Refusal>
+    ensures { MatchResult result (λ _. Fits n room living marks taken) (IsTooLarge n room living marks taken) }
 {
     if n > MOST {
-        return Some(Refusal::TooLarge);
+        return Err(Refusal::TooLarge);
     }
     if living < n || marks < room || taken < n {
-        return Some(Refusal::ShortBuffer);
+        return Err(Refusal::ShortBuffer);
     }
-    None
+    Ok(())
+}
+
+// Fills the table, clears the marks and counts the supports, or refuses.
+fn prepare<T, P: Peeled<T>>(
+    pool: &P,
+    list: &[T],
+    table: &mut [u16],
+    living: &[u8],
+    marks: &mut [u8],
+    counts: &mut [u16],
+    taken: usize,
+) -> Result<(), Refusal>
+    requires room { 33792 ≤ length table.old }
+    requires counted { 16384 ≤ length counts.old }
+    ensures ready { MatchResult result (λ _. P.Peeled.indexed pool.now list.now table.new × Counted (P.Peeled.support pool.now list.now) (P.Peeled.items pool.now list.now) living.now counts.new × Wiped (P.Peeled.room pool.now list.now) marks.old marks.new) (λ _. marks.new ≡ marks.old) }
+    ensures refused { MatchResult result (λ _. Fits (P.Peeled.items pool.now list.now) (P.Peeled.room pool.now list.now) (length living.now) (length marks.old) taken × P.Peeled.proper pool.now list.now) (λ x. PeelRefused (P.Peeled.items pool.now list.now) (P.Peeled.room pool.now list.now) (P.Peeled.proper pool.now list.now) (length living.now) (length marks.old) taken x) }
+{
+    let n = pool.item_count(list);
+    let room = pool.mark_count(list);
+    check(n, room, living.len(), marks.len(), taken)?;
+    if !pool.index(list, table) {
+        return Err(Refusal::Unordered);
+    }
+    wipe(marks, room);
+    count_all(pool, list, table, living, marks, counts);
+    Ok(())
 }
 
 /// Takes out items with a support below `least` until no living item has one. The items whose byte in `living` is
@@ -100,19 +127,18 @@ pub fn peel<T, P: Peeled<T>>(
     ensures cases { MatchResult result (λ len. PeeledIn (P.Peeled.support pool.now list.now) (P.Peeled.items pool.now list.now) least living.old living.new taken.old taken.new len × Wiped (P.Peeled.room pool.now list.now) marks.old marks.new) (λ _. (living.new ≡ living.old) × (marks.new ≡ marks.old) × (taken.new ≡ taken.old)) }
     ensures refused { MatchResult result (λ _. Fits (P.Peeled.items pool.now list.now) (P.Peeled.room pool.now list.now) (length living.old) (length marks.old) (length taken.old) × P.Peeled.proper pool.now list.now) (λ x. PeelRefused (P.Peeled.items pool.now list.now) (P.Peeled.room pool.now list.now) (P.Peeled.proper pool.now list.now) (length living.old) (length marks.old) (length taken.old) x) }
 {
-    let n = pool.item_count(list);
-    let room = pool.mark_count(list);
-    if let Some(e) = refusal(n, room, living.len(), marks.len(), taken.len()) {
-        return Err(e);
-    }
     let mut table = [0u16; 33792];
-    if !pool.index(list, &mut table) {
-        return Err(Refusal::Unordered);
-    }
     let mut counts = [0u16; 16384];
+    prepare(
+        pool,
+        list,
+        &mut table,
+        living,
+        marks,
+        &mut counts,
+        taken.len(),
+    )?;
     let mut out = [0u16; 16384];
-    wipe(marks, room);
-    count_all(pool, list, &table, living, marks, &mut counts);
     Ok(drain(
         pool,
         list,
@@ -152,7 +178,7 @@ fn descend<T, P: Peeled<T>>(
         next = low as usize + 1;
         len = drain(pool, list, table, next, living, marks, counts, taken, out);
     }
-    revive(taken, len, living);
+    revive(&taken[..len], living);
     next.saturating_sub(1)
 }
 
@@ -166,20 +192,11 @@ pub fn deepest<T, P: Peeled<T>>(
     ensures cases { MatchResult result (λ k. DeepestIn (P.Peeled.support pool.now list.now) (P.Peeled.items pool.now list.now) living.old living.new k × Wiped (P.Peeled.room pool.now list.now) marks.old marks.new) (λ _. (living.new ≡ living.old) × (marks.new ≡ marks.old)) }
     ensures refused { MatchResult result (λ _. Fits (P.Peeled.items pool.now list.now) (P.Peeled.room pool.now list.now) (length living.old) (length marks.old) 16384 × P.Peeled.proper pool.now list.now) (λ x. PeelRefused (P.Peeled.items pool.now list.now) (P.Peeled.room pool.now list.now) (P.Peeled.proper pool.now list.now) (length living.old) (length marks.old) 16384 x) }
 {
-    let n = pool.item_count(list);
-    let room = pool.mark_count(list);
-    if let Some(e) = refusal(n, room, living.len(), marks.len(), MOST) {
-        return Err(e);
-    }
     let mut table = [0u16; 33792];
-    if !pool.index(list, &mut table) {
-        return Err(Refusal::Unordered);
-    }
     let mut counts = [0u16; 16384];
+    prepare(pool, list, &mut table, living, marks, &mut counts, MOST)?;
     let mut taken = [0u16; 16384];
     let mut out = [0u16; 16384];
-    wipe(marks, room);
-    count_all(pool, list, &table, living, marks, &mut counts);
     Ok(descend(
         pool,
         list,

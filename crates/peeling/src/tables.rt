@@ -4,17 +4,6 @@ ghost use Rattle.finite.specs.Finite.{count, has};
 ghost use Rattle.supports.specs.Peel.{alive};
 ghost use Rattle.supports.proofs.Queues.{Queue, lesser, fallen};
 ghost use Rattle.supports.proofs.Descents.{LowestCount};
-ghost use Rattle.items.specs.Marks.{Wiped};
-
-// Clears the first n marks.
-pub fn wipe(marks: &mut [u8], n: usize)
-    requires { n ≤ length marks.old }
-    ensures { Wiped n marks.old marks.new }
-{
-    for k in 0..n {
-        marks[k] = 0;
-    }
-}
 
 // Queues the living items with a count below `least`. Returns how many they are.
 pub fn first_weak(living: &[u8], counts: &[u16], n: usize, least: usize, taken: &mut [u16]) -> usize
@@ -27,6 +16,7 @@ pub fn first_weak(living: &[u8], counts: &[u16], n: usize, least: usize, taken: 
     let mut tail = 0;
     for c in 0..n {
         if living[c] == 1 && (counts[c] as usize) < least {
+            // By hand: the queue is the caller's buffer.
             taken[tail] = c as u16;
             tail += 1;
         }
@@ -34,43 +24,40 @@ pub fn first_weak(living: &[u8], counts: &[u16], n: usize, least: usize, taken: 
     tail
 }
 
-// Lowers the count of each of the first `lost` items of `out`.
-pub fn lower(out: &[u16], lost: usize, n: usize, counts: &mut [u16])
-    requires fits { lost ≤ length out.now }
-    requires many { count (has (take lost out.now)) n ≡ lost }
-    requires within { (c : ℕ) → has (take lost out.now) c ≡ true → c < length counts.old }
-    requires positive { (c : ℕ) → has (take lost out.now) c ≡ true → 0 < slice_index counts.old c }
-    ensures { (c : ℕ) → slice_index counts.old c ≡ slice_index counts.new c + (if has (take lost out.now) c then 1 else 0) }
+// Lowers the count of each item that is listed.
+pub fn lower(lost: &[u16], n: usize, counts: &mut [u16])
+    requires many { count (has lost.now) n ≡ length lost.now }
+    requires within { (c : ℕ) → has lost.now c ≡ true → c < length counts.old }
+    requires positive { (c : ℕ) → has lost.now c ≡ true → 0 < slice_index counts.old c }
+    ensures { (c : ℕ) → slice_index counts.old c ≡ slice_index counts.new c + (if has lost.now c then 1 else 0) }
 {
-    for j in 0..lost {
-        counts[out[j] as usize] -= 1;
+    for x in lost {
+        counts[*x as usize] -= 1;
     }
 }
 
-// Queues those of the first `lost` items of `out` that have just fallen below `least`.
+// Queues those of the listed items that have just fallen below `least`.
 pub fn push_fallen(
-    out: &[u16],
-    lost: usize,
+    lost: &[u16],
     n: usize,
     counts: &[u16],
     least: usize,
     taken: &mut [u16],
     tail: usize,
 ) -> usize
-    requires fits { lost ≤ length out.now }
-    requires many { count (has (take lost out.now)) n ≡ lost }
-    requires within { (c : ℕ) → has (take lost out.now) c ≡ true → c < n }
+    requires many { count (has lost.now) n ≡ length lost.now }
+    requires within { (c : ℕ) → has lost.now c ≡ true → c < n }
     requires counted { n ≤ length counts.now }
     requires takes { n ≤ length taken.old }
     requires queue { count (has (take tail taken.old)) n ≡ tail }
-    requires fresh { (c : ℕ) → has (take lost out.now) c ≡ true → (slice_index counts.now c + 1 == least) ≡ true → has (take tail taken.old) c ≡ false }
-    ensures { Queue n (fallen out.now counts.now least lost) taken.old taken.new tail result }
+    requires fresh { (c : ℕ) → has lost.now c ≡ true → (slice_index counts.now c + 1 == least) ≡ true → has (take tail taken.old) c ≡ false }
+    ensures { Queue n (fallen lost.now counts.now least (length lost.now)) taken.old taken.new tail result }
 {
     let mut end = tail;
-    for j in 0..lost {
-        let c = out[j];
-        if counts[c as usize] as usize + 1 == least {
-            taken[end] = c;
+    for x in lost {
+        if counts[*x as usize] as usize + 1 == least {
+            // By hand: the queue is the caller's buffer.
+            taken[end] = *x;
             end += 1;
         }
     }
@@ -83,26 +70,15 @@ pub fn lowest(living: &[u8], counts: &[u16], n: usize) -> Option<u16>
     requires counted { n ≤ length counts.now }
     ensures { MatchOption result ((c : ℕ) → alive n living.now c ≡ false) (LowestCount n living.now counts.now) }
 {
-    let mut best: Option<u16> = None;
-    for c in 0..n {
-        if living[c] == 1 {
-            let with = counts[c];
-            best = match best {
-                Some(b) => Some(b.min(with)),
-                None => Some(with),
-            };
-        }
-    }
-    best
+    (0..n).filter(|c| living[*c] == 1).map(|c| counts[c]).min()
 }
 
-// Writes 1 at each of the first len items of `taken`.
-pub fn revive(taken: &[u16], len: usize, living: &mut [u8])
-    requires fits { len ≤ length taken.now }
-    requires within { (c : ℕ) → has (take len taken.now) c ≡ true → c < length living.old }
-    ensures { (c : ℕ) → slice_index living.new c ≡ (if has (take len taken.now) c then 1 else slice_index living.old c) }
+// Writes 1 at each item that is listed.
+pub fn revive(taken: &[u16], living: &mut [u8])
+    requires { (c : ℕ) → has taken.now c ≡ true → c < length living.old }
+    ensures { (c : ℕ) → slice_index living.new c ≡ (if has taken.now c then 1 else slice_index living.old c) }
 {
-    for j in 0..len {
-        living[taken[j] as usize] = 1;
+    for x in taken {
+        living[*x as usize] = 1;
     }
 }

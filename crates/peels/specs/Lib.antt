@@ -1,3 +1,2 @@
 pub mod Peels
-pub mod Marks
 pub mod Theorems

@@ -5,63 +5,20 @@ ghost use Rattle.std.specs.Prelude.{◌≡◌, ℕ, ◌<◌, ◌≤◌, true, fa
 ghost use Rattle.degeneracy.specs.Greedy.{Lowest};
 ghost use Rattle.finite.specs.Finite.{has};
 ghost use Rattle.graph.specs.Graph.{held};
-ghost use Rattle.peels.specs.Marks.{Marked};
 ghost use Rattle.putback.specs.Backs.{AllBelow, BackIn, BackRefused, Laid, LayRefused};
 
+use first_fit::lowest_free;
 use graph::refusal::Refusal;
 use graph::{Listed, Source};
 
-// Marks the colours of the neighbours of x.
-fn taken_near<S: Listed>(source: &S, x: usize, colours: &[u16]) -> [bool; 1026]
-    requires { (S.Source.graph source.now).size ≤ length colours.now }
-    ensures { Marked (S.Source.graph source.now) x colours.now result }
-{
-    let mut taken = [false; 1026];
-    for i in 0..source.degree(x) {
-        if let Some(b) = source.neighbour(x, i) {
-            let colour = colours[b] as usize;
-            if colour < 1026 {
-                taken[colour] = true;
-            }
-        }
-    }
-    taken
-}
-
-// The first colour from 1 that is not marked, or 1026.
-fn first_free(taken: &[bool]) -> usize
-    requires { length taken.now ≡ 1026 }
-    ensures low_bound { 1 ≤ result }
-    ensures high_bound { result ≤ 1026 }
-    ensures before { (j : ℕ) → 1 ≤ j → j < result → slice_index_or taken.now j false ≡ true }
-    ensures found { result < 1026 → slice_index_or taken.now result false ≡ false }
-{
-    let mut k = 1;
-    while k < 1026 && taken[k] {
-        k += 1;
-    }
-    k
-}
-
-// The lowest colour from 1 that no neighbour of x has.
-fn lowest_free<S: Listed>(source: &S, x: usize, colours: &[u16]) -> u16
-    requires { (S.Source.graph source.now).size ≤ length colours.now }
-    ensures { Lowest (S.Source.graph source.now) (held (S.Source.graph source.now)) (λ c. slice_index colours.now c) x result }
-{
-    let taken = taken_near(source, x, colours);
-    first_free(&taken) as u16
-}
+// No vertex has more than 1,023 neighbours, so the colours below 1026 are enough.
+const COLOURS: usize = 1026;
 
 // Whether every number of the list is below n.
 fn all_below(list: &[u16], n: usize) -> bool
     ensures { AllBelow list.now n result }
 {
-    for x in list {
-        if *x as usize >= n {
-            return false;
-        }
-    }
-    true
+    list.iter().all(|x| (*x as usize) < n)
 }
 
 // Takes the colours from the vertices of the list.
@@ -82,9 +39,9 @@ fn paint_back<S: Listed>(source: &S, list: &[u16], colours: &mut [u16])
     ensures { BackIn (S.Source.graph source.now) list.now colours.old colours.new }
 {
     clear(list, colours);
-    for i in (0..list.len()).rev() {
-        let x = list[i] as usize;
-        colours[x] = lowest_free(source, x, colours);
+    for x in list.iter().rev() {
+        let x = *x as usize;
+        colours[x] = lowest_free::<S, COLOURS>(source, x, colours);
     }
 }
 
@@ -110,8 +67,8 @@ fn spread(list: &[u16], drives: &[u16], colours: &mut [u16])
     requires listed { (i : ℕ) → i < length list.now → slice_index list.now i < length colours.old }
     ensures { Laid list.now drives.now colours.old colours.new }
 {
-    for i in 0..list.len() {
-        colours[list[i] as usize] = drives[i];
+    for (x, drive) in list.iter().zip(drives) {
+        colours[*x as usize] = *drive;
     }
 }
 

@@ -12,12 +12,7 @@ fn row_has(offsets: &[u16], neighbours: &[u16], a: usize, b: usize) -> bool
 {
     let from = offsets[a] as usize;
     let to = offsets[a + 1] as usize;
-    for k in from..to {
-        if neighbours[k] as usize == b {
-            return true;
-        }
-    }
-    false
+    neighbours[from..to].iter().any(|x| *x as usize == b)
 }
 
 /// Whether offset `i` keeps the rules.
@@ -39,12 +34,7 @@ fn bad_offset(offsets: &[u16], total: usize) -> Option<usize>
     if offsets.is_empty() {
         return Some(0);
     }
-    for i in 0..offsets.len() {
-        if !sound_offset(offsets, total, i) {
-            return Some(i);
-        }
-    }
-    None
+    (0..offsets.len()).find(|i| !sound_offset(offsets, total, *i))
 }
 
 /// Whether the neighbour at place `k`, in row `c`, keeps the rules.
@@ -71,12 +61,7 @@ fn bad_in_row(offsets: &[u16], neighbours: &[u16], c: usize) -> Option<usize>
 {
     let from = offsets[c] as usize;
     let to = offsets[c + 1] as usize;
-    for k in from..to {
-        if !sound_entry(offsets, neighbours, c, k) {
-            return Some(k);
-        }
-    }
-    None
+    (from..to).find(|k| !sound_entry(offsets, neighbours, c, *k))
 }
 
 /// The first neighbour that breaks a rule.
@@ -85,6 +70,7 @@ fn bad_entry(offsets: &[u16], neighbours: &[u16]) -> Option<usize>
     ensures { MatchOption result (SoundEntries offsets.now neighbours.now) (FirstBadEntry offsets.now neighbours.now) }
 {
     let count = offsets.len() - 1;
+    // By hand: `find_map` was tried, and its proof did not close.
     for c in 0..count {
         if let Some(k) = bad_in_row(offsets, neighbours, c) {
             return Some(k);

@@ -1,28 +1,13 @@
 -- Steps of loops over bytes and counts.
-use Rattle.std.proofs.Common.{◌≡◌, ℕ, ◌+◌, ◌<◌, ◌≤◌, min, true, false, cond, ltb, ◌⊎◌, List, length, get_or, take, set, sym, refl, ap, ◌∙◌, subst, inl, inr, arith, get_or-set_other, get_or-set_same}
+use Rattle.std.proofs.Common.{◌≡◌, ℕ, ◌+◌, ◌<◌, ◌≤◌, min, true, false, cond, ◌⊎◌, List, length, get_or, take, set, sym, refl, ap, ◌∙◌, subst, inl, inr, arith, get_or-set_other, get_or-set_same}
 use Rattle.std.proofs.lemmas.List.{take_more}
-use Rattle.std.proofs.lemmas.Bool.{cases_Bool, cases_eq, cases_lt, both_ways, lt-ltb, le-ltb, eq-eqb, ne_eqb}
+use Rattle.std.proofs.lemmas.Bool.{cases_Bool, cases_eq, cases_lt, both_ways, eq-eqb, ne_eqb}
 use Rattle.std.proofs.lemmas.Bool.Decides.{nat_tests}
 use Rattle.finite.specs.Finite.{has}
 use Rattle.finite.proofs.Counts.{has_push}
 use Rattle.supports.specs.Peel.{alive}
 use Rattle.supports.proofs.Peels.{alive_below, alive_byte, alive_yes}
 use Rattle.supports.proofs.Descents.{LowestCount}
-
--- the first k places hold v
-pub filled_more : (v : ℕ) (before after : List ℕ) (k : ℕ) → k < length after → ((i : ℕ) → get_or after i 0 ≡ cond (ltb i k) v (get_or before i 0)) → (i : ℕ) → get_or (set after k v) i 0 ≡ cond (ltb i (k + 1)) v (get_or before i 0)
-filled_more v before after k l f i =
-    let h = f i in
-    elim (cases_eq i k) [
-      | inl e ↦ let g = get_or-set_same after k v 0 l in
-          let z = ap (λ x. get_or (set after k v) x 0) e in
-          let a = lt-ltb i (k + 1) (omega arith) in grind (arith, nat_tests)
-      | inr ne ↦ let g = get_or-set_other after k i v 0 ne in
-          elim (cases_lt i k) [
-            | inl m ↦ let a = lt-ltb i (k + 1) (omega arith) in let b = lt-ltb i k m in grind (arith, nat_tests)
-            | inr m ↦ let a = le-ltb i (k + 1) (omega arith) in let b = le-ltb i k m in grind (arith, nat_tests)
-          ]
-    ]
 
 pub revived_more : (taken before living : List ℕ) (j : ℕ) → j < length taken → get_or taken j 0 < length living → ((c : ℕ) → get_or living c 0 ≡ cond (has (take j taken) c) 1 (get_or before c 0)) → (c : ℕ) → get_or (set living (get_or taken j 0) 1) c 0 ≡ cond (has (take (j + 1) taken) c) 1 (get_or before c 0)
 revived_more taken before living j l within f c =

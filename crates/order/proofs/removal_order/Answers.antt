@@ -1,4 +1,5 @@
-use Rattle.std.proofs.Common.{arith}
+use Rattle.std.proofs.Common.{◌≡◌, length, ◌∙◌, arith}
+use Rattle.std.proofs.lemmas.List.{length-take-le, take_at, drop_at}
 use Rattle.graph.proofs.Graphs.{vertices_le}
 use Rattle.order.proofs.Copies.{ordered_copied}
 use Rattle.order.proofs.removal_order.Goals as goal
@@ -10,4 +11,8 @@ remove_all-ordered-requires g c =
 
 pub returns : goal.returns
 returns g c =
-    (ordered_copied _ _ _ _ _ _ _ c.remove_all-ordered.ensures (omega (arith, c.vertex_count.ensures)) c.copy_front.ensures.after c.copy_front.ensures.rest, omega arith)
+    let o = c.remove_all-ordered.ensures in
+    let n = c.remove_all-ordered.result.len in
+    let front = c.copy_from_slice.new.self in
+    let l : length front ≡ n = c.copy_from_slice.ensures.len ∙ length-take-le n c.args.order.now (omega (arith, c.vertex_count.ensures, o.len_is)) in
+    (ordered_copied _ _ c.remove_all-ordered.new.order _ _ _ _ o (omega (arith, c.vertex_count.ensures)) (take_at front _ n l ∙ c.copy_from_slice.ensures.after) (drop_at front _ n l), omega arith)

@@ -1,4 +1,4 @@
-use Rattle.std.proofs.Common.{◌≡◌, ◌<◌, ◌≤◌, false, ◌⊎◌, length, take, set, sym, refl, ◌∙◌, subst, inl, inr, arith, rules}
+use Rattle.std.proofs.Common.{◌≡◌, ◌<◌, ◌≤◌, false, ◌⊎◌, max, get_or, length, take, set, sym, refl, ◌∙◌, subst, arith, rules}
 use Rattle.std.proofs.lemmas.List.{length-set, length-take-le, take_more_set, drop-set-lt}
 use Rattle.graph.specs.Graph.{vertices, inside}
 use Rattle.degeneracy.specs.Order.{survivors, Next}
@@ -6,14 +6,14 @@ use Rattle.degeneracy.proofs.Orders.{peak_degeneracy}
 use Rattle.degeneracy.proofs.Removal.{State, state_none, state_next, state_pos, state_more, state_all, removed_room}
 use Rattle.order.proofs.remove_all.Given
 use Rattle.order.proofs.remove_all.Goals as goal
-use Rattle.order.proofs.remove_all.Goals.{then-with-most, else-with-most, In-Some}
+use Rattle.order.proofs.remove_all.Goals.{In-Some}
 
 pub loop-x-init : goal.loop-x-init
-loop-x-init g c = (
+loop-x-init g c = let lw = g.met.S.Source.lawful c.args.source.now in (
   search rules,
   search rules,
   omega arith,
-  state_none (g.S.Source.graph c.args.source.now) c.fill_alive.new.alive c.fill_degrees.new.left c.fill_alive.ensures c.fill_degrees.ensures,
+  state_none (g.S.Source.graph c.args.source.now) c.living-alive.result c.degrees-left.result (λ k l. c.living-alive.ensures k (omega (arith, lw.small))) (λ k l. c.degrees-left.ensures k (omega (arith, lw.small))),
   refl,
 )
 
@@ -44,15 +44,12 @@ loop-x-preserved g c =
     let lw = g.met.S.Source.lawful c.args.source.now in
     let p = take c.loop-x.len c.loop-x.order in
     let x = c.in-Some.x in
-    let m = c.if-with-most.most in
+    let m = c.max-most.result in
     let s = c.loop-x.invariant.3 in
     let f = found g (goal.at.loop-x-preserved g c).In-Some in
     let w = s.lefts x f.0.within in
-    let ways : (c.loop-x.most ≤ m) × (inside G (survivors G p) x ≤ m) × ((m ≡ c.loop-x.most) ⊎ (m ≡ inside G (survivors G p) x)) =
-    elim c.if-with-most.branch [
-      | then-with-most v ↦ (omega (arith, v.most-is, v.if-with-most.true), omega (arith, v.most-is), inr (v.most-is ∙ w))
-      | else-with-most v ↦ (omega (arith, v.most-is), omega (arith, v.most-is, v.if-with-most.false), inl v.most-is)
-    ] in
+    let e : m ≡ max c.loop-x.most (get_or c.loop-x.left x 0) = search rules in
+    let ways : (c.loop-x.most ≤ m) × (inside G (survivors G p) x ≤ m) × ((m ≡ c.loop-x.most) ⊎ (m ≡ inside G (survivors G p) x)) = (omega (arith, e), omega (arith, e, w), grind (arith, e, w)) in
     let more = state_more G p c.loop-x.alive c.loop-x.left c.take_out.new.left c.loop-x.most m x lw (omega (arith, lw.small, c.loop-x.invariant.0)) s f.0 c.take_out.ensures ways.0 ways.1 ways.2 in (
       simp length-set c.loop-x.invariant.0,
       search rules,

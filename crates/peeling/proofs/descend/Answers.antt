@@ -34,8 +34,7 @@ loop-low-preserved g c =
     )
 
 pub revive-requires : goal.revive-requires
-revive-requires g c =
-    record { fits = c.loop-low.invariant.1; within = λ k y. omega (arith, alive_below _ _ k (c.loop-low.invariant.2 k y), c.requires.tables.lives) }
+revive-requires g c = λ k y. omega (arith, alive_below _ _ k (c.loop-low.invariant.2 k y), c.requires.tables.lives)
 
 pub returns : goal.returns
 returns g c =

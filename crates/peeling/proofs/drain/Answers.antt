@@ -1,5 +1,5 @@
-use Rattle.std.proofs.Common.{◌≡◌, ℕ, ◌&&◌, ltb, [], get_or, take, sym, refl, ap, ◌∙◌, subst, arith}
-use Rattle.std.proofs.lemmas.List.{length-take-le}
+use Rattle.std.proofs.Common.{◌≡◌, ℕ, ◌+◌, ◌&&◌, ltb, cond, List, [], length, get_or, take, sym, refl, ap, ◌∙◌, subst, arith}
+use Rattle.std.proofs.lemmas.List.{take_all}
 use Rattle.finite.specs.Finite.{count, has}
 use Rattle.finite.proofs.Counts.{has_none, or_no}
 use Rattle.supports.specs.Peel.{alive}
@@ -41,8 +41,7 @@ lower-requires g c =
     let e = c.item_count-n.ensures in
     let out = c.losers-lost.new.out in
     record {
-      fits = c.losers-lost.ensures.fits;
-      many = subst (λ (v : ℕ). count (has (take c.losers-lost.result out)) v ≡ c.losers-lost.result) (sym e) (lo.many ∙ length-take-le c.losers-lost.result out c.losers-lost.ensures.fits);
+      many = subst (λ (v : ℕ). count (has (take c.losers-lost.result out)) v ≡ length (take c.losers-lost.result out)) (sym e) lo.many;
       within = λ k y. omega (arith, alive_below N c.loop-head.living k (lo.member k y), c.requires.tables.counted);
       positive = losers_positive _ _ _ _ _ _ _ _ _ (g.met.P.Peeled.falls c.args.pool.now c.args.list.now) (omega (arith, c.requires.tables.lives)) i.0 (omega arith) i.1 (take c.losers-lost.result out) lo;
     }
@@ -55,8 +54,7 @@ push_fallen-tail-requires g c =
     let e = c.item_count-n.ensures in
     let out = c.losers-lost.new.out in
     record {
-      fits = c.losers-lost.ensures.fits;
-      many = subst (λ (v : ℕ). count (has (take c.losers-lost.result out)) v ≡ c.losers-lost.result) (sym e) (lo.many ∙ length-take-le c.losers-lost.result out c.losers-lost.ensures.fits);
+      many = subst (λ (v : ℕ). count (has (take c.losers-lost.result out)) v ≡ length (take c.losers-lost.result out)) (sym e) lo.many;
       within = λ k y. omega (arith, alive_below N c.loop-head.living k (lo.member k y));
       counted = omega (arith, c.requires.tables.counted);
       takes = omega (arith, c.requires.tables.takes);
@@ -79,8 +77,10 @@ loop-head-preserved g c =
     let e = c.item_count-n.ensures in
     let out = take c.losers-lost.result c.losers-lost.new.out in
     let q = c.push_fallen-tail.ensures in
+    let tk : take (length out) out ≡ out = take_all (length out) out (omega arith) in
+    let low = subst (λ (xs : List ℕ). (i : ℕ) → get_or c.loop-head.counts i 0 ≡ get_or c.lower.new.counts i 0 + cond (has xs i) 1 0) (sym tk) c.lower.ensures in
     let w : Lowered N c.args.least out c.loop-head.counts c.lower.new.counts c.loop-head.taken c.push_fallen-tail.new.taken c.loop-head.tail c.push_fallen-tail.result =
-    subst (λ (v : ℕ). Lowered v c.args.least out c.loop-head.counts c.lower.new.counts c.loop-head.taken c.push_fallen-tail.new.taken c.loop-head.tail c.push_fallen-tail.result) e (lowered_from _ _ _ _ _ _ _ _ _ _ c.lower.ensures q) in (
+    subst (λ (v : ℕ). Lowered v c.args.least out c.loop-head.counts c.lower.new.counts c.loop-head.taken c.push_fallen-tail.new.taken c.loop-head.tail c.push_fallen-tail.result) e (subst (λ (xs : List ℕ). Lowered c.item_count-n.result c.args.least xs c.loop-head.counts c.lower.new.counts c.loop-head.taken c.push_fallen-tail.new.taken c.loop-head.tail c.push_fallen-tail.result) tk (lowered_from _ _ _ _ _ _ _ _ _ _ low q)) in (
       draining_more sup N c.args.least c.args.living.now c.loop-head.living c.loop-head.counts c.loop-head.taken c.loop-head.head c.loop-head.tail f (omega (arith, c.requires.tables.lives)) i.0 (omega arith) i.1 out c.lower.new.counts c.push_fallen-tail.new.taken c.push_fallen-tail.result lo w,
       q.fits,
       omega (arith, i.2, q.grows),

@@ -1,35 +1,29 @@
-use Rattle.std.proofs.Common.{◌+◌, ◌<◌, ltb, length, sym, ap, ◌∙◌, arith, rules}
-use Rattle.std.proofs.lemmas.List.{length_push}
-use Rattle.graph.specs.Edges.{edge}
-use Rattle.graph.proofs.Graphs.{inside_le}
-use Rattle.caps.proofs.Rows.{met_edges, met_none, met_yes, met_no, met_all, met_le, row_length}
+use Rattle.std.proofs.Common.{◌≡◌, ℕ, Bool, ◌&&◌, ltb, length, sym, ap, ◌∙◌, inl, arith, rules, tests}
+use Rattle.std.proofs.lemmas.Bool.{cases_Bool}
+use Rattle.std.proofs.lemmas.Iterator.Consumers.{YieldsList-at, YieldsList-from_filter, count_from_yields_List}
+use Rattle.finite.proofs.Counts.{count_same}
+use Rattle.finite.proofs.Members.{length_members}
+use Rattle.graph.specs.Graph.{clash, inside}
+use Rattle.graph.proofs.Walks.{YieldsList-from_neighbours, filter_members, left_fits}
+use Rattle.caps.proofs.Rows.{row_length}
 use Rattle.capping.proofs.edges.count_later.Goals as goal
-use Rattle.capping.proofs.edges.count_later.Goals.{in-Some+then-a-b, in-Some+else-a-b, in_default}
 
-pub loop-i-init : goal.loop-i-init
-loop-i-init g c = sym (ap length (met_none (g.S.Source.graph c.args.source.now) c.args.a))
-
-pub overflow_add-total : goal.overflow_add-total
-overflow_add-total g c =
-    let G = g.S.Source.graph c.args.source.now in
-    let s = (g.met.S.Source.lawful c.args.source.now).small in
-    let h : c.loop-i.total + 1 < 2000 = omega (arith, c.loop-i.invariant, met_le G c.args.a c.loop-i.i, row_length G c.args.a, inside_le G (ltb c.args.a) c.args.a) in
-    search rules
-
-pub loop-i-preserved : goal.loop-i-preserved
-loop-i-preserved g c =
-    let G = g.S.Source.graph c.args.source.now in
-    let a = c.args.a in
-    let i = c.loop-i.i in
-    elim c.match-neighbour.branch [
-      | in-Some+then-a-b w ↦ let r = w.in-Some.ensures.ranked in
-          omega (arith, w.total-is, c.loop-i.invariant, ap length (met_yes G a i w.in-Some.b r w.if-a-b.true), length_push (met_edges G a i) (edge a w.in-Some.b))
-      | in-Some+else-a-b w ↦ let r = w.in-Some.ensures.ranked in
-          omega (arith, w.total-is, c.loop-i.invariant, ap length (met_no G a i w.in-Some.b r w.if-a-b.false))
-      | in_default w ↦ absurd (omega (arith, w.in_default.ensures.ranked, c.degree-i-end.ensures))
-    ]
+pub count-requires-clause-fits : goal.count-requires-clause-fits
+count-requires-clause-fits g c =
+    let i = c.filter.result.iter in
+    inl (left_fits (g.S.Source.graph i.source.now) i.vertex i.passed (g.met.S.Source.lawful i.source.now))
 
 pub returns : goal.returns
+unfolding inside
 returns g c =
     let G = g.S.Source.graph c.args.source.now in
-    c.loop-i.invariant ∙ ap length (met_all G c.args.a c.loop-i.i (omega (arith, c.degree-i-end.ensures)))
+    let p = clash G c.args.a in
+    let q : ℕ → Bool = λ b. ltb c.args.a b in
+    count_from_yields_List c.filter.result _ c.count.ensures.ran (YieldsList-from_filter _ q (YieldsList-at c.filter.ensures.source (YieldsList-from_neighbours _ _ _ G c.args.a c.of.ensures.source c.of.ensures.vertex c.of.ensures.start)) c.filter.ensures.closure (λ x r w k. search (rules, tests)))
+    ∙ ap length (filter_members p q G.size)
+    ∙ length_members (λ b. p b && q b) G.size
+    ∙ count_same (λ b. p b && q b) (λ b. q b && p b) G.size (λ b l. turn (p b) (q b))
+    ∙ sym (row_length G c.args.a)
+  where
+    turn : (x y : Bool) → (x && y) ≡ (y && x)
+    turn x y = grind (arith, cases_Bool x, cases_Bool y)

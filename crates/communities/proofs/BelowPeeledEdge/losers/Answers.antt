@@ -4,9 +4,7 @@ use Rattle.communities.proofs.BelowPeeledEdge.losers.Goals as goal
 pub triangles-requires : goal.triangles-requires
 triangles-requires c =
     record {
-      chained = c.requires.ready;
       member = c.requires.member;
-      lives = c.requires.lives;
       room = c.requires.clear.fits;
       clear = c.requires.clear.zero;
       lost = c.requires.lost;

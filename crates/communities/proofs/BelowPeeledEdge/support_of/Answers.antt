@@ -11,9 +11,7 @@ raise-requires c =
     let n = c.args.self.now.size in
     let r = c.requires.ready.listing.rising in
     record {
-      chained = c.requires.ready;
       within = omega (arith, smaller n c.args.list.now r c.args.i c.requires.within, below n c.args.list.now r c.args.i c.requires.within);
-      lives = c.requires.lives;
       room = c.requires.clear.fits;
       differ = λ e. omega arith;
     }
@@ -23,9 +21,7 @@ raise-requires-2 c =
     let n = c.args.self.now.size in
     let r = c.requires.ready.listing.rising in
     record {
-      chained = c.requires.ready;
       within = below n c.args.list.now r c.args.i c.requires.within;
-      lives = c.requires.lives;
       room = omega (arith, c.requires.clear.fits, c.raise.auto.marks);
       differ = λ e. omega arith;
     }

@@ -1,4 +1,5 @@
-use Rattle.std.proofs.Common.{ltb, get_or, refl, ◌∙◌, arith}
+use Rattle.std.proofs.Common.{◌≤◌, ◌++◌, ltb, length, get_or, drop, refl, ◌∙◌, arith, length-append, length-drop, length-take}
+use Rattle.finite.proofs.Tables.{filled_at}
 use Rattle.std.proofs.lemmas.List.{length-set}
 use Rattle.std.proofs.lemmas.Bool.{cond-true, lt-ltb}
 use Rattle.cohesion.proofs.Places.{smaller, below}
@@ -7,7 +8,8 @@ use Rattle.communities.proofs.walks.chain.Goals as goal
 
 pub loop-j-init : goal.loop-j-init
 loop-j-init c =
-    chaining_none c.args.n c.args.list.now c.clear_heads.new.table (omega (arith, c.requires.long)) (λ u h. c.clear_heads.ensures u ∙ cond-true (ltb u c.args.n) 0 (get_or c.args.table.now u 0) (lt-ltb u c.args.n h))
+    let filled : 33792 ≤ length (c.fill.new.self ++ drop c.args.n c.args.table.now) = omega (arith, c.requires.long, length-append c.fill.new.self (drop c.args.n c.args.table.now), length-drop c.args.n c.args.table.now, length-take c.args.n c.args.table.now, c.fill.ensures.len) in
+    chaining_none c.args.n c.args.list.now _ filled (λ u h. filled_at c.fill.new.self c.args.table.now c.args.n 0 u (omega (arith, c.requires.long, c.requires.listing.small)) (c.fill.ensures.after (λ y q. q)) ∙ cond-true (ltb u c.args.n) 0 (get_or c.args.table.now u 0) (lt-ltb u c.args.n h))
 
 pub bounds-table-a : goal.bounds-table-a
 bounds-table-a c =

@@ -1,5 +1,5 @@
 use Rattle.supports.proofs.Queues.{Queue, fallen}
 use Rattle.peeling.proofs.tables.push_fallen.Given as goal
 
-abbrev pub invariant-loop-j : goal.invariant-loop-j
-invariant-loop-j l = Queue l.n (fallen l.out l.counts l.least l.j) l.initial.taken l.taken l.tail l.end
+abbrev pub invariant-loop-x : goal.invariant-loop-x
+invariant-loop-x l = Queue l.n (fallen l.lost l.counts l.least l.x-index) l.initial.taken l.taken l.tail l.end

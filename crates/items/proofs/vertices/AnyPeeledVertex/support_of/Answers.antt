@@ -1,41 +1,46 @@
-use Rattle.std.proofs.Common.{ℕ, ◌+◌, ◌<◌, sym, refl, ap, ◌∙◌, arith, rules}
-use Rattle.finite.proofs.Counts.{count_le}
+use Rattle.std.proofs.Common.{◌≡◌, ℕ, Bool, true, ◌&&◌, eqb, ltb, length, get_or, ap, ◌∙◌, inl, arith, rules, tests}
+use Rattle.std.proofs.lemmas.Bool.{cases_Bool, lt-ltb}
+use Rattle.std.proofs.lemmas.Iterator.Consumers.{YieldsList-at, YieldsList-from_filter, count_from_yields_List}
+use Rattle.finite.proofs.Counts.{count_same}
+use Rattle.finite.proofs.Members.{length_members}
 use Rattle.supports.specs.Peel.{alive}
-use Rattle.supports.proofs.Peels.{alive_yes, alive_no}
+use Rattle.graph.specs.Graph.{Graph, clash, inside}
 use Rattle.graph.proofs.Graphs.{inside_le}
-use Rattle.cohesion.proofs.Near.{near, near_count_none, near_count_yes, near_count_no, near_count_all}
+use Rattle.graph.proofs.Walks.{YieldsList-from_neighbours, filter_members, left_fits, serves_from_neighbours}
 use Rattle.items.proofs.vertices.AnyPeeledVertex.support_of.Goals as goal
-use Rattle.items.proofs.vertices.AnyPeeledVertex.support_of.Goals.{in-Some+then-living-b-eq1, in-Some+else-living-b-eq1, in_default}
 
-pub loop-j-init : goal.loop-j-init
-loop-j-init g c =
+pub count-requires-clause-can : goal.count-requires-clause-can
+count-requires-clause-can g c =
+    let i = c.filter.result.iter in
     let G = g.S.Source.graph c.args.self.now in
-    sym (near_count_none G (alive G.size c.args.living.now) c.args.i)
+    let e : (g.S.Source.graph i.source.now).size ≡ G.size = ap (λ w. (g.S.Source.graph w.source.now).size) c.filter.ensures.source ∙ ap (λ (w : Graph). w.size) c.of.ensures.source in
+    let q : length c.filter.result.p.0.now ≡ length c.args.living.now = ap (λ w. length w.0.now) c.filter.ensures.closure in
+    (tt, tt, serves_from_neighbours _ _ _ (λ x q r. search (rules, tests)) (λ x l y z _ _ _ _ _ _ _ _. omega (arith, l, z, e, q, c.requires.lives)))
 
-pub overflow_add-total : goal.overflow_add-total
-overflow_add-total g c =
+pub count-requires-clause-fits : goal.count-requires-clause-fits
+count-requires-clause-fits g c =
+    let i = c.filter.result.iter in
+    inl (left_fits (g.S.Source.graph i.source.now) i.vertex i.passed (g.met.S.Source.lawful i.source.now))
+
+found : (g : _) (c : goal.After-count g) → c.count.result ≡ inside (g.S.Source.graph c.args.self.now) (alive (g.S.Source.graph c.args.self.now).size c.args.living.now) c.args.i
+unfolding inside alive
+found g c =
+    let G = g.S.Source.graph c.args.self.now in
+    let p = clash G c.args.i in
+    let q : ℕ → Bool = λ b. eqb (get_or c.args.living.now b 0) 1 in
+    count_from_yields_List c.filter.result _ c.count.ensures.ran (YieldsList-from_filter _ q (YieldsList-at c.filter.ensures.source (YieldsList-from_neighbours _ _ _ G c.args.i c.of.ensures.source c.of.ensures.vertex c.of.ensures.start)) c.filter.ensures.closure (λ x r w k. search (rules, tests)))
+    ∙ ap length (filter_members p q G.size)
+    ∙ length_members (λ b. p b && q b) G.size
+    ∙ count_same (λ b. p b && q b) (λ b. (ltb b G.size && q b) && p b) G.size (λ b l. turn (p b) (q b) (ltb b G.size) (lt-ltb b G.size l))
+  where
+    turn : (x y t : Bool) → t ≡ true → (x && y) ≡ ((t && y) && x)
+    turn x y t e = rw e (grind (arith, cases_Bool x, cases_Bool y))
+
+pub returns-clause-value : goal.returns-clause-value
+returns-clause-value g c = found g c
+
+pub returns-clause-bound : goal.returns-clause-bound
+returns-clause-bound g c =
     let G = g.S.Source.graph c.args.self.now in
     let l = (g.met.S.Source.lawful c.args.self.now).small in
-    let h = count_le (near G (alive G.size c.args.living.now) c.args.i c.loop-j.j) G.size in
-    let k : c.loop-j.total + 1 < 2000 = omega (arith, c.loop-j.invariant) in
-    search rules
-
-pub loop-j-preserved : goal.loop-j-preserved
-loop-j-preserved g c =
-    let G = g.S.Source.graph c.args.self.now in
-    let A = alive G.size c.args.living.now in
-    elim c.match-neighbour.branch [
-      | in-Some+then-living-b-eq1 w ↦ let r = w.in-Some.ensures.ranked in
-          w.total-is ∙ ap (λ (n : ℕ). n + 1) c.loop-j.invariant ∙ sym (near_count_yes G A c.args.i c.loop-j.j w.in-Some.b r (alive_yes G.size c.args.living.now w.in-Some.b r.0 w.if-living-b-eq1.true))
-      | in-Some+else-living-b-eq1 w ↦ let r = w.in-Some.ensures.ranked in
-          w.total-is ∙ c.loop-j.invariant ∙ sym (near_count_no G A c.args.i c.loop-j.j w.in-Some.b r (alive_no G.size c.args.living.now w.in-Some.b w.if-living-b-eq1.false))
-      | in_default w ↦ absurd (omega (arith, w.in_default.ensures.ranked, c.degree-j-end.ensures))
-    ]
-
-pub returns : goal.returns
-returns g c =
-    let G = g.S.Source.graph c.args.self.now in
-    let A = alive G.size c.args.living.now in
-    let v = c.loop-j.invariant ∙ near_count_all G A c.args.i c.loop-j.j (omega (arith, c.degree-j-end.ensures)) in
-    let l = (g.met.S.Source.lawful c.args.self.now).small in
-    record { value = v; bound = omega (arith, v, inside_le G A c.args.i); same = λ k. refl }
+    omega (arith, found g c, inside_le G (alive G.size c.args.living.now) c.args.i)

@@ -1,0 +1,7 @@
+use Rattle.std.proofs.Common.{arith, rules, tests}
+use Rattle.finite.proofs.Tables.{made_at}
+use Rattle.graph.specs.Graph.{degree}
+use Rattle.order.proofs.degrees.Goals as goal
+
+pub returns : goal.returns
+returns g c = λ k l. made_at _ _ (degree (g.S.Source.graph c.args.source.now)) c.from_fn.result 1024 0 c.from_fn.ensures.items.each (λ x y q w. search (rules, tests)) k (omega arith) (omega arith) 0

@@ -1,5 +1,0 @@
-use Rattle.items.specs.Marks.{Wiped}
-use Rattle.peeling.proofs.tables.wipe.Given as goal
-
-abbrev pub invariant-loop-k : goal.invariant-loop-k
-invariant-loop-k l = Wiped l.k l.initial.marks l.marks

@@ -1,5 +1,0 @@
-use Rattle.degeneracy.proofs.Marks.{Marks}
-use Rattle.plan.proofs.taken_near.Given as goal
-
-abbrev pub invariant-loop-i : goal.invariant-loop-i
-invariant-loop-i g l = Marks (g.S.Source.graph l.source) l.x l.colours l.i l.taken
