@@ -1,7 +1,8 @@
 -- What a line keeps of its fields, and what a fault says.
-use Rattle.std.specs.Prelude.{◌≡◌, ℕ, ◌-◌, ◌≤◌, Bool, false, List, Some, Option, nat_lt}
+use Rattle.std.specs.Prelude.{◌≡◌, ℕ, ◌-◌, ◌≤◌, Bool, false, List, [], Some, Option, nat_lt}
 use Rattle.fields.specs.Numerals.{numeral}
 use Rattle.fields.specs.Parts.{parts}
+use Rattle.graph.specs.declared.refusal.Refusal.{Refusal}
 use Rattle.graph.specs.Refusals.{number}
 use Rattle.grammar.specs.Lines.{field, Said, size, clash, remark, ended, wrong, both, says}
 use Rattle.grammar.specs.Sheet.{Outcome, fault, Verdict, refused}
@@ -18,6 +19,13 @@ pub record IsFault (x k j : ℕ) (bytes : List ℕ) (f : Fault) : Type 0 where
   pub line : f.line ≡ k
   pub field : f.field ≡ j
   pub shown : f.shown.now ≡ bytes
+
+-- the fault is of no line, and has this refusal
+pub record Unplaced (x : Refusal) (f : Fault) : Type 0 where
+  pub refusal : f.refusal ≡ x
+  pub line : f.line ≡ 0
+  pub field : f.field ≡ 0
+  pub shown : f.shown.now ≡ []
 
 -- the figure is the field's numeral, and keeps its bytes
 pub record Figured (bytes : List ℕ) (x : Figure) : Type 0 where

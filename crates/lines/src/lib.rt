@@ -1,15 +1,17 @@
 #![tactic(auto)]
 
-ghost use Rattle.std.specs.Prelude.{◌≡◌, ℕ, ◌<◌, ◌≤◌, true, false, Some, None, MatchResult, ◌==◌};
+ghost use Rattle.std.specs.Prelude.{◌≡◌, ℕ, ◌<◌, ◌≤◌, true, false, [], Some, None, MatchResult, ◌==◌};
 ghost use Rattle.std.specs.Option.{option_map};
 ghost use Rattle.fields.specs.Numerals.{numeral};
+ghost use Rattle.graph.specs.declared.refusal.Refusal.TheVariants.{NoMemory};
 ghost use Rattle.grammar.specs.Lines.{kind_of};
 ghost use Rattle.lines.specs.Rest.{Next, fields_of, count_of};
-ghost use Rattle.lines.specs.Kept.{IsFault, Figured, TwoKept, TwoFault, Kept, LineFault};
+ghost use Rattle.lines.specs.Kept.{Unplaced, IsFault, Figured, TwoKept, TwoFault, Kept, LineFault};
 
 use fields::{Piece, cut, number};
 use grammar::Kind;
 use graph::refusal::Refusal;
+use std::alloc::AllocError;
 
 // A field that is a numeral: its bytes, and its number.
 #[derive(Clone, Copy)]
@@ -43,6 +45,41 @@ pub struct Fault<'a> {
     pub shown: &'a [u8],
 }
 
+impl<'a> Fault<'a> {
+    // The fault of a field.
+    pub fn at(refusal: Refusal, line: usize, field: usize, shown: &'a [u8]) -> Self
+        ensures refusal { result.refusal ≡ refusal }
+        ensures line { result.line ≡ line }
+        ensures field { result.field ≡ field }
+        ensures shown { result.shown.now ≡ shown.now }
+    {
+        Fault {
+            refusal,
+            line,
+            field,
+            shown,
+        }
+    }
+}
+
+// The fault of no line.
+impl<'a> From<Refusal> for Fault<'a> {
+    ghost from_gives = { λ x f. Unplaced x f };
+
+    fn from(refusal: Refusal) -> Self {
+        Fault::at(refusal, 0, 0, &[])
+    }
+}
+
+// The fault of no line that memory is wanting.
+impl<'a> From<AllocError> for Fault<'a> {
+    ghost from_gives = { λ _ f. Unplaced NoMemory f };
+
+    fn from(_error: AllocError) -> Self {
+        Refusal::NoMemory.into()
+    }
+}
+
 // The first field of what is left of a line, empty where nothing is left.
 fn next<'a>(rest: Option<&'a [u8]>) -> Piece<'a>
     ensures { Next (option_map (λ x. x.now) rest.entry) result.front.now (option_map (λ x. x.now) result.rest) }
@@ -61,12 +98,7 @@ fn read_figure<'a>(shown: &'a [u8], field: usize, at: usize) -> Result<Figure<'a
 {
     match number(shown) {
         Some(value) => Ok(Figure { shown, value }),
-        None => Err(Fault {
-            refusal: Refusal::BadLine,
-            line: at,
-            field,
-            shown,
-        }),
+        None => Err(Fault::at(Refusal::BadLine, at, field, shown)),
     }
 }
 
@@ -77,12 +109,7 @@ fn none_left<'a>(rest: Option<&'a [u8]>, field: usize, at: usize) -> Result<(), 
     match rest {
         Some(text) => {
             let shown = cut(text, b'\t').front;
-            Err(Fault {
-                refusal: Refusal::BadLine,
-                line: at,
-                field,
-                shown,
-            })
+            Err(Fault::at(Refusal::BadLine, at, field, shown))
         }
         None => Ok(()),
     }
@@ -119,12 +146,7 @@ fn kind(field: &[u8]) -> Kind
 pub fn misplaced<'a>(shown: &'a [u8], at: usize) -> Fault<'a>
     ensures { IsFault 9 at 1 shown.now result }
 {
-    Fault {
-        refusal: Refusal::BadLine,
-        line: at,
-        field: 1,
-        shown,
-    }
+    Fault::at(Refusal::BadLine, at, 1, shown)
 }
 
 // The first line: the size.
