@@ -1,5 +1,6 @@
 -- What is printed, case by case.
-use Rattle.std.proofs.Common.{◌≡◌, ℕ, zero, suc, ◌+◌, ◌≤◌, Bool, cond, List, [], ◌∷◌, ◌++◌, length, get_or, take, Result, Ok, Err, sym, refl, ap, ◌∙◌, inl, inr, add-one, arith}
+use Rattle.std.proofs.Common.{◌≡◌, ℕ, zero, suc, ◌+◌, ◌≤◌, Bool, cond, List, [], ◌∷◌, ◌++◌, length, get_or, take, Some, None, Option, subst, IfSome, Result, Ok, Err, sym, refl, ap, ◌∙◌, inl, inr, add-one, arith}
+use Rattle.std.specs.Option.{option_map}
 use Rattle.std.proofs.lemmas.Bool.{le-ltb, lt-ltb}
 use Rattle.std.proofs.lemmas.List.{append_assoc, append-nil, get_or-take}
 use Rattle.graph.specs.declared.refusal.Refusal.{Refusal}
@@ -65,3 +66,14 @@ prints_clean text returns s out f g (inr (inr (l, inr w))) =
       | inl u ↦ inl (u.2 ∙ clean_printed s (text u.0) l (rewrites s _ _ (text u.0) w.stock (f w.form u.0 u.1)))
       | inr u ↦ inr (u.2 ∙ ap (λ (y : Refusal). refusal (number y) 0 0) (g w.form u.0 u.1))
     ]
+
+-- what is known only where a value is
+pub where_known : {A : Type 0} {P : A → Type 0} (o : Option A) → ((x : A) → o ≡ Some x → P x) → IfSome o P
+where_known None f = tt
+where_known (Some x) f = f x refl
+
+-- what was read of known bytes
+pub bytes_read : (o p : Option (List ℕ)) (k : ℕ) (bytes none read : List ℕ) → o ≡ Some bytes → p ≡ option_map (take k) o → none ≡ [] → IfSome p (λ xs. read ≡ none ++ xs) → read ≡ take k bytes
+bytes_read o p k bytes none read e f z h =
+    let s : p ≡ Some (take k bytes) = f ∙ ap (option_map (take k)) e in
+    subst (λ q. IfSome q (λ xs. read ≡ none ++ xs)) s h ∙ ap (λ ys. ys ++ take k bytes) z

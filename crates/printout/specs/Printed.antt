@@ -1,5 +1,7 @@
 -- What the program prints for what it is given.
-use Rattle.std.specs.Prelude.{◌≡◌, ℕ, zero, suc, ◌<◌, ◌≤◌, cond, ◌⊎◌, List, [], ◌∷◌, ◌++◌, length, Result, Ok, Err, ◌==◌, nat_lt, slice_index}
+use Rattle.std.specs.Prelude.{◌≡◌, ℕ, zero, suc, ◌<◌, ◌≤◌, cond, ◌⊎◌, List, [], ◌∷◌, ◌++◌, length, Option, Result, Ok, Err, ◌==◌, nat_lt, slice_index}
+use Rattle.std.specs.Io.KnownBytes.{Appends}
+use Rattle.std.specs.declared.alloc.AllocError.{AllocError}
 use Rattle.fields.specs.Rows.{numbers_line}
 use Rattle.graph.specs.declared.refusal.Refusal.{Refusal}
 use Rattle.graph.specs.Refusals.{number}
@@ -42,3 +44,8 @@ Answers text returns s out =
     ⊎ (((out ≡ refusal 99 0 0) × (length s ≤ 65536))
     ⊎ ((length s ≤ 65536)
     × (((x : ℕ) × (k : ℕ) × (j : ℕ) × (shown : List ℕ) × (outcome s ≡ fault x k j shown) × (out ≡ refusal x k j)) ⊎ OfStock text returns s out)))
+
+-- to what stood there, the text that is returned is appended, or the letter x and 99 where memory is wanting
+abbrev pub Replies : {V : Type 0} → (V → List ℕ) → (Result V AllocError → Type 0) → Option (List ℕ) → Option (List ℕ) → Type 0
+Replies {V} text returns before after =
+    ((v : V) × returns (Ok v) × Appends before after (text v)) ⊎ ((e : AllocError) × returns (Err e) × Appends before after (120 ∷ 9 ∷ 57 ∷ 57 ∷ 10 ∷ []))

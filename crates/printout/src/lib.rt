@@ -1,11 +1,11 @@
 //! What the program prints.
 #![tactic(auto)]
 
-ghost use Rattle.std.specs.Prelude.{◌≡◌, ◌++◌, length, IfOk, MatchResult, OnOk};
+ghost use Rattle.std.specs.Prelude.{◌≡◌, ◌++◌, length, take, IfOk, IfSome, MatchResult, OnOk};
 ghost use Rattle.std.specs.Vec.{vec_items};
 ghost use Rattle.std.specs.Fn.{FnOnceReturnsAt};
 ghost use Rattle.graph.specs.Refusals.{number};
-ghost use Rattle.printout.specs.Printed.{Answers, Prints, drive_lines, refusal};
+ghost use Rattle.printout.specs.Printed.{Answers, Prints, Replies, drive_lines, refusal};
 
 use fields::write_fields;
 use graph::refusal::Refusal;
@@ -13,6 +13,8 @@ use lines::Fault;
 use sheets::load;
 use sources::list_form::ListForm;
 use std::alloc::{AllocError, Global};
+use std::io;
+use std::io::{Read, Write};
 use writing::write;
 
 /// The most bytes that a sheet may have.
@@ -79,4 +81,22 @@ pub fn clean_sheet(heap: Global, input: &[u8]) -> Result<Vec<u8>, AllocError>
     ensures { IfOk result (λ v. Prints input.now v.items) }
 {
     print_stock(heap, input, |form| Ok(write(heap, form)?))
+}
+
+/// Reads a sheet, up to one byte more than it may have, and writes what `respond` makes of it, or 99 where memory is wanting.
+pub fn serve<R: Read + Drop, W: Write, F: FnOnce(&[u8]) -> Result<Vec<u8>, AllocError>>(
+    heap: Global,
+    input: R,
+    output: &mut W,
+    respond: F,
+) -> io::Result<()>
+    requires { F.IsAlwaysCallable respond }
+    ensures { OnOk result (IfSome (R.remaining input) (λ bytes. Replies vec_items (FnOnceReturnsAt F.FnOnce respond (take 65537 bytes)) (W.contents output.old) (W.contents output.new))) }
+{
+    let mut sheet = Vec::new(heap);
+    input.take(LIMIT as u64 + 1).read_to_end(&mut sheet)?;
+    match respond(sheet.as_slice()) {
+        Ok(text) => output.write_all(text.as_slice()),
+        Err(_) => output.write_all(b"x\t99\n"),
+    }
 }
