@@ -1,12 +1,12 @@
 #![tactic(auto)]
 
-ghost use Rattle.std.specs.Prelude.{◌≡◌, ℕ, ◌<◌, ◌≤◌, true, false, [], Some, None, MatchResult, ◌==◌};
+ghost use Rattle.std.specs.Prelude.{◌≡◌, ℕ, ◌<◌, ◌≤◌, true, false, Some, None, MatchResult, ◌==◌};
 ghost use Rattle.std.specs.Option.{option_map};
 ghost use Rattle.fields.specs.Numerals.{numeral};
 ghost use Rattle.graph.specs.declared.refusal.Refusal.TheVariants.{NoMemory};
 ghost use Rattle.grammar.specs.Lines.{kind_of};
 ghost use Rattle.lines.specs.Rest.{Next, fields_of, count_of};
-ghost use Rattle.lines.specs.Kept.{Unplaced, IsFault, Figured, TwoKept, TwoFault, Kept, LineFault};
+ghost use Rattle.lines.specs.Kept.{Unplaced, IsAt, IsFault, Figured, TwoKept, TwoFault, Kept, LineFault};
 
 use fields::{Piece, cut, number};
 use grammar::Kind;
@@ -36,28 +36,30 @@ pub enum Line<'a> {
     End,
 }
 
-// Why a sheet is refused and where: line and field count from 1, and `shown` is the field's bytes.
+// A field of a sheet: line and field count from 1, and `shown` is the field's bytes.
 #[derive(Clone, Copy)]
-pub struct Fault<'a> {
-    pub refusal: Refusal,
+pub struct Place<'a> {
     pub line: usize,
     pub field: usize,
     pub shown: &'a [u8],
+}
+
+// Why a sheet is refused, and where, if a line of it is at fault.
+#[derive(Clone, Copy)]
+pub struct Fault<'a> {
+    pub refusal: Refusal,
+    pub place: Option<Place<'a>>,
 }
 
 impl<'a> Fault<'a> {
     // The fault of a field.
     pub fn at(refusal: Refusal, line: usize, field: usize, shown: &'a [u8]) -> Self
         ensures refusal { result.refusal ≡ refusal }
-        ensures line { result.line ≡ line }
-        ensures field { result.field ≡ field }
-        ensures shown { result.shown.now ≡ shown.now }
+        ensures place { IsAt line field shown.now result.place }
     {
         Fault {
             refusal,
-            line,
-            field,
-            shown,
+            place: Some(Place { line, field, shown }),
         }
     }
 }
@@ -67,7 +69,10 @@ impl<'a> From<Refusal> for Fault<'a> {
     ghost from_gives = { λ x f. Unplaced x f };
 
     fn from(refusal: Refusal) -> Self {
-        Fault::at(refusal, 0, 0, &[])
+        Fault {
+            refusal,
+            place: None,
+        }
     }
 }
 

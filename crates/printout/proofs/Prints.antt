@@ -12,7 +12,7 @@ use Rattle.fields.specs.Rows.{numbers_line}
 use Rattle.grammar.specs.Sheet.{outcome, written}
 use Rattle.grammar.proofs.Forth.{reads_states}
 use Rattle.lines.specs.declared.Fault.{Fault}
-use Rattle.lines.specs.Kept.{Unplaced}
+use Rattle.lines.specs.Kept.{line_of, field_of, Unplaced}
 use Rattle.sheets.specs.Loaded.{Loaded, Rewritten}
 use Rattle.sheets.proofs.Stocks.{rewrites}
 use Rattle.sources.specs.declared.list_form.ListForm.{ListForm}
@@ -24,11 +24,11 @@ clean_printed s t l w =
     w.clean ∙ sym (ap (λ (v : Bool). cond v (refusal 7 0 0) (told (outcome s))) (le-ltb 65536 (length s) l) ∙ ap told o)
 
 -- the line of a fault of no line
-pub unplaced_refusal : (x : Refusal) (f : Fault) → Unplaced x f → refusal (number f.refusal) f.line f.field ≡ refusal (number x) 0 0
+pub unplaced_refusal : (x : Refusal) (f : Fault) → Unplaced x f → refusal (number f.refusal) (line_of f.place) (field_of f.place) ≡ refusal (number x) 0 0
 unplaced_refusal x f u =
-    ap (λ (y : Refusal). refusal (number y) f.line f.field) u.refusal ∙ ap (λ (k : ℕ). refusal (number x) k f.field) u.line ∙ ap (refusal (number x) 0) u.field
+    ap (λ (y : Refusal). refusal (number y) (line_of f.place) (field_of f.place)) u.refusal ∙ ap (λ o. refusal (number x) (line_of o) (field_of o)) u.place
 
-pub answers_no : {V : Type 0} {text : V → List ℕ} {returns : ListForm → Result V Refusal → Type 0} (s : List ℕ) (form : ListForm) (x : Refusal) (f : Fault) → length s ≤ 65536 → Loaded s form.offsets.items form.neighbours.items → returns form (Err x) → Unplaced x f → Answers text returns s (refusal (number f.refusal) f.line f.field)
+pub answers_no : {V : Type 0} {text : V → List ℕ} {returns : ListForm → Result V Refusal → Type 0} (s : List ℕ) (form : ListForm) (x : Refusal) (f : Fault) → length s ≤ 65536 → Loaded s form.offsets.items form.neighbours.items → returns form (Err x) → Unplaced x f → Answers text returns s (refusal (number f.refusal) (line_of f.place) (field_of f.place))
 answers_no s form x f l w r u =
     inr (inr (l, inr (record { form = form; stock = w; answer = inr (x, r, unplaced_refusal x f u) })))
 

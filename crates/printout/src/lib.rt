@@ -5,6 +5,7 @@ ghost use Rattle.std.specs.Prelude.{◌≡◌, ◌++◌, length, take, IfOk, IfS
 ghost use Rattle.std.specs.Vec.{vec_items};
 ghost use Rattle.std.specs.Fn.{FnOnceReturnsAt};
 ghost use Rattle.graph.specs.Refusals.{number};
+ghost use Rattle.lines.specs.Kept.{line_of, field_of};
 ghost use Rattle.printout.specs.Printed.{Answers, Prints, Replies, drive_lines, refusal};
 
 use fields::write_fields;
@@ -27,7 +28,7 @@ fn answered<'a, F: FnOnce(&ListForm) -> Result<Vec<u8>, Refusal>>(
     answer: F,
 ) -> Result<Vec<u8>, Fault<'a>>
     requires { F.IsAlwaysCallable answer }
-    ensures { MatchResult result (λ v. Answers vec_items (FnOnceReturnsAt F.FnOnce answer) input.now v.items) (λ f. Answers vec_items (FnOnceReturnsAt F.FnOnce answer) input.now (refusal (number f.refusal) f.line f.field)) }
+    ensures { MatchResult result (λ v. Answers vec_items (FnOnceReturnsAt F.FnOnce answer) input.now v.items) (λ f. Answers vec_items (FnOnceReturnsAt F.FnOnce answer) input.now (refusal (number f.refusal) (line_of f.place) (field_of f.place))) }
 {
     if input.len() > LIMIT {
         return Err(Refusal::ShortBuffer.into());
@@ -39,12 +40,16 @@ fn answered<'a, F: FnOnce(&ListForm) -> Result<Vec<u8>, Refusal>>(
 
 /// The line of a refusal.
 pub fn write_refusal(heap: Global, fault: &Fault) -> Result<Vec<u8>, AllocError>
-    ensures { IfOk result (λ v. v.items ≡ refusal (number fault.now.refusal) fault.now.line fault.now.field) }
+    ensures { IfOk result (λ v. v.items ≡ refusal (number fault.now.refusal) (line_of fault.now.place) (field_of fault.now.place)) }
 {
     let mut out = Vec::new(heap);
     let code = usize::from(u8::from(fault.refusal));
     if fault.refusal == Refusal::BadLine {
-        write_fields(&mut out, b'x', &[code, fault.line, fault.field])?;
+        let (line, field) = match fault.place {
+            Some(place) => (place.line, place.field),
+            None => (0, 0),
+        };
+        write_fields(&mut out, b'x', &[code, line, field])?;
     } else {
         write_fields(&mut out, b'x', &[code])?;
     }

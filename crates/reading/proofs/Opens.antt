@@ -7,7 +7,7 @@ use Rattle.grammar.specs.Lines.{field, Said, size, clash, remark, ended, wrong, 
 use Rattle.grammar.specs.Sheet.{Outcome, states, fault, walk, opened, outcome, written, Reads}
 use Rattle.grammar.proofs.Back.{states_both}
 use Rattle.grammar.proofs.Steps.{open_stop, open_line, opened_large, opened_fair, size_long}
-use Rattle.lines.specs.Kept.{told, IsFault, Kept, LineFault}
+use Rattle.lines.specs.Kept.{field_of, told, IsFault, Kept, LineFault}
 use Rattle.reading.specs.Read.{Walked, Stated, Begun, ReadInto}
 use Rattle.lines.specs.declared.Fault.{Fault}
 use Rattle.lines.specs.declared.Figure.{Figure}
@@ -20,7 +20,7 @@ opens_not s front f c e = open_stop s front c.0 ∙ sym e
 
 pub opens_wrong : (s line rest : List ℕ) (f : Fault) → Cut 10 s line (Some rest) → LineFault true line 1 f → outcome s ≡ told f
 opens_wrong s line rest f c w =
-    let t = open_line s line (parts 10 rest) (wrong f.field) c.0 w.says in
+    let t = open_line s line (parts 10 rest) (wrong (field_of f.place)) c.0 w.says in
     let x = w.fault_is.code in let y = w.fault_is.line in let z = w.fault_is.shown in cc
 
 pub opens_misplaced : (s line rest : List ℕ) (f : Fault) (sd : Said) → Cut 10 s line (Some rest) → says true (parts 9 line) ≡ sd → IsFault 9 1 1 (field (parts 9 line) 0) f → opened (parts 9 line) sd (parts 10 rest) ≡ fault 9 1 1 (field (parts 9 line) 0) → outcome s ≡ told f

@@ -12,11 +12,12 @@ use Rattle.graph.proofs.Edges.{latest_push}
 use Rattle.grammar.proofs.Steps.{walk_stop, walk_line, judged_fine, judged_refused}
 use Rattle.std.specs.Option.{option_map}
 use Rattle.lines.specs.declared.Line.{Line}
-use Rattle.lines.specs.Kept.{told, Refused, IsFault, LineFault, Kept}
+use Rattle.lines.specs.Kept.{line_of, field_of, shown_of, IsAt, told, Refused, IsFault, LineFault, Kept}
 use Rattle.reading.specs.declared.Size.{Size}
 use Rattle.reading.specs.declared.Walk.{Walk}
 use Rattle.reading.specs.Read.{Ends, Filled, Walked}
 use Rattle.lines.specs.declared.Fault.{Fault}
+use Rattle.lines.specs.declared.Place.{Place}
 
 -- behind the lines before `rest`, which stated `done` edges
 pub record Going (n m : ℕ) (text rest : List ℕ) (at done : ℕ) (previous : Option Edge) (before after : List Edge) : Type 0 where
@@ -109,7 +110,7 @@ pub going_wrong : (n m : ℕ) (text rest : List ℕ) (at done : ℕ) (o : Option
 going_wrong n m text rest at done o before after line after_line f g c w =
     let l = g.later in
     let e : eqb at 1 ≡ false = ne_eqb at 1 (λ q. omega arith) in
-    let t = going_line n m text rest at done o before after g line after_line (wrong f.field) c (ap (λ b. says b (parts 9 line)) (sym e) ∙ w.says) in
+    let t = going_line n m text rest at done o before after g line after_line (wrong (field_of f.place)) c (ap (λ b. says b (parts 9 line)) (sym e) ∙ w.says) in
     let x = w.fault_is.code in let y = w.fault_is.line in let z = w.fault_is.shown in cc
 
 pub going_size : (n m : ℕ) (text rest : List ℕ) (at done : ℕ) (o : Option Edge) (before after : List Edge) (line after_line : List ℕ) (f : Fault) (a b : ℕ) → Going n m text rest at done o before after → Cut 10 rest line (Some after_line) → says false (parts 9 line) ≡ size a b → IsFault 9 at 1 (field (parts 9 line) 0) f → walk n m [] 2 (parts 10 text) ≡ told f
@@ -159,10 +160,14 @@ filled_else before after new e done l h w =
     (ap length w, λ es c f. subst (λ v. Filled before v (es ++ e ∷ [])) (sym w) (filled_full before after es e l (omega arith)))
 
 -- a refused clash, and its fault
-pub refused_at : (v : Verdict) (text : List ℕ) (k x j : ℕ) (f : Fault) → v ≡ refused x j → number f.refusal ≡ x → f.line ≡ k → f.field ≡ j → f.shown.now ≡ field (parts 9 text) (j - 1) → Refused v text k f
+pub refused_at : (v : Verdict) (text : List ℕ) (k x j : ℕ) (f : Fault) → v ≡ refused x j → number f.refusal ≡ x → line_of f.place ≡ k → field_of f.place ≡ j → shown_of f.place ≡ field (parts 9 text) (j - 1) → Refused v text k f
 refused_at v text k x j f e c l i s =
     record {
       verdict = e ∙ ap (λ (y : ℕ). refused y j) (sym c) ∙ ap (refused (number f.refusal)) (sym i);
       line = l;
       shown = s ∙ ap (λ (y : ℕ). field (parts 9 text) (y - 1)) (sym i);
     }
+
+pub placed : (k j : ℕ) (bytes : List ℕ) (o : Option Place) → IsAt k j bytes o → (line_of o ≡ k) × (field_of o ≡ j) × (shown_of o ≡ bytes)
+placed k j bytes None h = absurd h
+placed k j bytes (Some p) h = h
