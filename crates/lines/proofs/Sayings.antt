@@ -1,11 +1,11 @@
 -- What a line says, from its first field and what is left behind it.
-use Rattle.std.proofs.Common.{◌≡◌, ℕ, ◌+◌, ◌-◌, ◌<◌, ◌≤◌, Bool, true, false, ltb, List, Some, Option, sym, refl, ap, ◌∙◌, arith}
+use Rattle.std.proofs.Common.{◌≡◌, ℕ, ◌+◌, ◌-◌, ◌<◌, ◌≤◌, Bool, true, false, ltb, ◌⊎◌, inl, inr, List, Some, Option, sym, refl, ap, ◌∙◌, arith}
 use Rattle.std.proofs.lemmas.Bool.{lt-ltb, le-ltb}
 use Rattle.std.proofs.lemmas.Bool.Decides.{nat_tests}
 use Rattle.fields.specs.Numerals.{numeral}
 use Rattle.fields.specs.Parts.{Parts, last, more, parts}
 use Rattle.grammar.specs.declared.Kind.{Kind}
-use Rattle.grammar.specs.declared.Kind.TheVariants.{End}
+use Rattle.grammar.specs.declared.Kind.TheVariants.{Size, Clash, Remark, End, Other}
 use Rattle.grammar.specs.Lines.{field, size_of, kind_of, Said, ended, wrong, both, said, says}
 use Rattle.lines.specs.Rest.{Next, fields_of, count_of}
 use Rattle.lines.specs.Kept.{field_of, IsFault, TwoKept, TwoFault, LineFault}
@@ -28,6 +28,18 @@ at_field text at j bytes f i e =
 pub line_fault : (first : Bool) (text : List ℕ) (at j : ℕ) (f : Fault) (bytes : List ℕ) → says first (parts 9 text) ≡ wrong j → IsFault 9 at j bytes f → bytes ≡ field (parts 9 text) (j - 1) → LineFault first text at f
 line_fault first text at j f bytes s i e =
     record { says = s ∙ ap (λ (x : ℕ). wrong x) (sym i.field); fault_is = at_field text at j bytes f i e }
+
+-- what may not stand in a first line, and in a later one
+pub said_first : (k : Kind) → (k ≡ Size → ⊥) → (p : Parts) → said true k p ≡ wrong 1
+said_first Size h p = absurd (h refl)
+said_first Clash h p = refl
+said_first Remark h p = refl
+said_first End h p = refl
+said_first Other h p = refl
+
+pub said_later : (k : Kind) → (k ≡ Size) ⊎ (k ≡ Other) → (p : Parts) → said false k p ≡ wrong 1
+said_later k (inl e) p = rw e refl
+said_later k (inr e) p = rw e refl
 
 pub fault_first : (first : Bool) (text front : List ℕ) (rest : Option (List ℕ)) (k : Kind) (at : ℕ) (f : Fault) → Next (Some text) front rest → k ≡ kind_of front → said first k (parts 9 text) ≡ wrong 1 → IsFault 9 at 1 front f → LineFault first text at f
 fault_first first text front rest k at f n e s i =

@@ -98,6 +98,7 @@ fn next<'a>(rest: Option<&'a [u8]>) -> Piece<'a>
     }
 }
 
+// By hand: number and line of a field are passed one by one, since a struct for them would be longer at each call.
 fn read_figure<'a>(shown: &'a [u8], field: usize, at: usize) -> Result<Figure<'a>, Fault<'a>>
     ensures { MatchResult result (λ x. Figured shown.now x) (λ f. (numeral shown.now ≡ None) × IsFault 9 at field shown.now f) }
 {
@@ -135,14 +136,11 @@ fn read_two<'a>(rest: Option<&'a [u8]>, at: usize) -> Result<Two<'a>, Fault<'a>>
 fn kind(field: &[u8]) -> Kind
     ensures { result ≡ kind_of field.now }
 {
-    if field.len() != 1 {
-        return Kind::Other;
-    }
-    match field[0] as char {
-        's' => Kind::Size,
-        'p' => Kind::Clash,
-        'r' => Kind::Remark,
-        'e' => Kind::End,
+    match field {
+        [b's'] => Kind::Size,
+        [b'p'] => Kind::Clash,
+        [b'r'] => Kind::Remark,
+        [b'e'] => Kind::End,
         _ => Kind::Other,
     }
 }
@@ -167,10 +165,7 @@ fn first_line<'a>(text: &'a [u8], at: usize) -> Result<Line<'a>, Fault<'a>>
                 m: both.b,
             })
         }
-        Kind::Clash => Err(misplaced(head.front, at)),
-        Kind::Remark => Err(misplaced(head.front, at)),
-        Kind::End => Err(misplaced(head.front, at)),
-        Kind::Other => Err(misplaced(head.front, at)),
+        _ => Err(misplaced(head.front, at)),
     }
 }
 
@@ -192,8 +187,7 @@ fn later_line<'a>(text: &'a [u8], at: usize) -> Result<Line<'a>, Fault<'a>>
             none_left(head.rest, 2, at)?;
             Ok(Line::End)
         }
-        Kind::Size => Err(misplaced(head.front, at)),
-        Kind::Other => Err(misplaced(head.front, at)),
+        Kind::Size | Kind::Other => Err(misplaced(head.front, at)),
     }
 }
 
