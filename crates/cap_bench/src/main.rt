@@ -22,13 +22,7 @@ struct Measured {
 
 // How many bytes are 1.
 fn ones(bytes: &[u8]) -> usize {
-    let mut count = 0usize;
-    for b in bytes {
-        if *b == 1 {
-            count = count.saturating_add(1);
-        }
-    }
-    count
+    bytes.iter().filter(|b| **b == 1).count()
 }
 
 // Finds the cap again and again.

@@ -1210,11 +1210,14 @@ fn all_due(rt: &impl Abort, cases: &[Case]) -> Result<(), Fail> {
     for c in cases {
         match check_sheet(c.sheet) {
             Ok(_) => return Err(Fail::new("a faulty sheet was taken")),
-            Err(fault) => {
-                assert_eq!(rt; fault.refusal.number(), c.number);
-                assert_eq!(rt; fault.line, c.line);
-                assert_eq!(rt; fault.field, c.field);
-                assert_eq!(rt; fault.shown, c.shown);
+            Err(Fault { refusal, place }) => {
+                assert_eq!(rt; u8::from(refusal), c.number);
+                let Some(place) = place else {
+                    return Err(Fail::new("a fault of no line"));
+                };
+                assert_eq!(rt; place.line, c.line);
+                assert_eq!(rt; place.field, c.field);
+                assert_eq!(rt; place.shown, c.shown);
             }
         }
     }

@@ -1,4 +1,4 @@
-use printout::clean_sheet;
+use printout::{clean_sheet, serve};
 use sheets::{load, read, reread};
 use std::alloc::Global;
 use std::process::Abort;
@@ -32,12 +32,8 @@ fn printed(rt: HostRuntime) -> Result<(), Fail> {
 // a sheet of n bytes: a size line, one long remark, the end
 fn long(heap: Global, n: usize) -> Result<Vec<u8>, Fail> {
     let mut sheet = b"s\t1\t0\nr\t".to_vec(heap)?;
-    for _ in 11..n {
-        sheet.push(b'a')?;
-    }
-    sheet.push(b'\n')?;
-    sheet.push(b'e')?;
-    sheet.push(b'\n')?;
+    sheet.resize(n.saturating_sub(3), b'a')?;
+    sheet.extend_from_slice(b"\ne\n")?;
     Ok(sheet)
 }
 
@@ -52,6 +48,19 @@ fn by_length(rt: HostRuntime) -> Result<(), Fail> {
     prints(&rt, heap, over.as_slice(), b"x\t7\n")
 }
 
+// what is read is answered, and the answer stands behind what was there
+#[test]
+fn served(rt: HostRuntime) -> Result<(), Fail> {
+    let heap = rt.alloc();
+    let mut output = b"#".to_vec(heap)?;
+    serve(heap, RING, &mut output, |sheet| clean_sheet(heap, sheet))?;
+    assert_eq!(rt;
+        output.as_slice(),
+        b"#s\t4\t4\np\t0\t1\np\t0\t3\np\t1\t2\np\t2\t3\ne\n".as_slice()
+    );
+    Ok(())
+}
+
 #[test]
 fn read_into(rt: HostRuntime) -> Result<(), Fail> {
     let heap = rt.alloc();
@@ -59,11 +68,11 @@ fn read_into(rt: HostRuntime) -> Result<(), Fail> {
     let mut neighbours = [7u16; 9];
     match read(heap, RING, &mut offsets[0..4], &mut neighbours) {
         Ok(_) => return Err(Fail::new("four offsets do not suffice")),
-        Err(fault) => assert_eq!(rt; fault.refusal.number(), 7),
+        Err(fault) => assert_eq!(rt; u8::from(fault.refusal), 7),
     }
     match read(heap, RING, &mut offsets, &mut neighbours[0..7]) {
         Ok(_) => return Err(Fail::new("seven neighbours do not suffice")),
-        Err(fault) => assert_eq!(rt; fault.refusal.number(), 7),
+        Err(fault) => assert_eq!(rt; u8::from(fault.refusal), 7),
     }
     assert_eq!(rt; offsets, [7; 6]);
     assert_eq!(rt; neighbours, [7; 9]);

@@ -46,13 +46,9 @@ fn run(rt: &HostRuntime) -> anyhow::Result<()> {
     let turns = args.next().context("no count")?.as_str().parse::<u32>()?;
     let mut input = Vec::new(rt.alloc());
     rt.stdin().read_to_end(&mut input)?;
-    let Ok(form) = load(rt.alloc(), input.as_slice()) else {
-        return Err(anyhow!("no sheet"));
-    };
-    match search_by(name.as_str(), &form, turns) {
-        Ok(most) => println!(rt; "{most}")?,
-        Err(_) => return Err(anyhow!("refused")),
-    }
+    let form = load(rt.alloc(), input.as_slice()).map_err(|_| anyhow!("no sheet"))?;
+    let most = search_by(name.as_str(), &form, turns).map_err(|_| anyhow!("refused"))?;
+    println!(rt; "{most}")?;
     Ok(())
 }
 

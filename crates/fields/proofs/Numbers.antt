@@ -1,11 +1,9 @@
-use Rattle.std.proofs.Common.{◌≡◌, ℕ, ◌+◌, ◌-◌, ◌*◌, ◌^◌, ◌<◌, ◌≤◌, true, false, ◌&&◌, ◌⊎◌, List, length, get_or, drop, Some, None, decimal, Option, sym, ap, ◌∙◌, subst, inl, inr, pow-suc, add-one, arith, rules, MatchOption}
+use Rattle.std.proofs.Common.{◌≡◌, ℕ, ◌<◌, true, false, List, length, Some, None, decimal, Option, sym, ap, ◌∙◌, subst, inl, inr, arith, rules, MatchOption}
 use Rattle.std.specs.Str.{all_ascii_digits}
 use Rattle.std.proofs.lemmas.Str.Parse.{IsNumeralModel, numerals_by_fold, digits_value_short}
 use Rattle.std.proofs.lemmas.Fmt.{digits_decimal, digits_value-decimal, decimal-digits_value, length-decimal-le, decimal_nonempty, first_decimal, decimal_digit}
 use Rattle.std.proofs.lemmas.Bool.{cases_Bool, cases_eq, and_from}
 use Rattle.std.proofs.lemmas.Bool.Decides.{nat_tests}
-use Rattle.std.specs.Char.{is_ascii_digit}
-use Rattle.std.proofs.lemmas.List.{drop_more, at_drop_all}
 use Rattle.fields.specs.Numerals.{Numeral, read_on, fair, numeral}
 
 pub own : IsNumeralModel (λ ds. all_ascii_digits ds ≡ true) (read_on 0)
@@ -55,27 +53,6 @@ numeral_of f v e =
 
 pub numeral_never : (f : List ℕ) → numeral f ≡ None → (v : ℕ) → Numeral f v → ⊥
 numeral_never f e v n = let q = numeral_some f v n in let z : ◌≡◌ {A = ℕ} 0 1 = cc in omega arith
-
-pub digit_more : (f : List ℕ) (i v : ℕ) → i < length f → 48 ≤ get_or f i 0 → get_or f i 0 ≤ 57 → (read_on v (drop i f) ≡ read_on 0 f) × (all_ascii_digits (drop i f) ≡ all_ascii_digits f) × (v < 10 ^ i) → (read_on (10 * v + (get_or f i 0 - 48)) (drop (i + 1) f) ≡ read_on 0 f) × (all_ascii_digits (drop (i + 1) f) ≡ all_ascii_digits f) × (10 * v + (get_or f i 0 - 48) < 10 ^ (i + 1))
-digit_more f i v l a b s =
-    let d = drop_more f i 0 l in
-    let x : read_on v (drop i f) ≡ read_on (10 * v + (get_or f i 0 - 48)) (drop (i + 1) f) = ap (read_on v) d in
-    let y : all_ascii_digits (drop i f) ≡ (is_ascii_digit (get_or f i 0) && all_ascii_digits (drop (i + 1) f)) = ap all_ascii_digits d in
-    let t : is_ascii_digit (get_or f i 0) ≡ true = grind (arith, nat_tests) in
-    let p : 10 ^ (i + 1) ≡ 10 ^ i * 10 = rw add-one (pow-suc 10 i) in
-    (sym x ∙ s.0, sym (rw t at y) ∙ s.1, omega (arith, s.2))
-
-pub digit_bad : (f : List ℕ) (i : ℕ) → i < length f → (get_or f i 0 < 48) ⊎ (57 < get_or f i 0) → all_ascii_digits (drop i f) ≡ all_ascii_digits f → all_ascii_digits f ≡ false
-digit_bad f i l w s =
-    let y : all_ascii_digits (drop i f) ≡ (is_ascii_digit (get_or f i 0) && all_ascii_digits (drop (i + 1) f)) = ap all_ascii_digits (drop_more f i 0 l) in
-    let t : is_ascii_digit (get_or f i 0) ≡ false = elim w [ inl a ↦ grind (arith, nat_tests) | inr a ↦ grind (arith, nat_tests) ] in
-    sym s ∙ rw t at y
-
-pub digit_all : (f : List ℕ) (i v : ℕ) → length f ≤ i → (read_on v (drop i f) ≡ read_on 0 f) × (all_ascii_digits (drop i f) ≡ all_ascii_digits f) → (all_ascii_digits f ≡ true) × (v ≡ read_on 0 f)
-digit_all f i v l s =
-    let x : read_on v (drop i f) ≡ v = at_drop_all (read_on v) f i l in
-    let y : all_ascii_digits (drop i f) ≡ true = at_drop_all all_ascii_digits f i l in
-    (sym s.1 ∙ y, sym x ∙ s.0)
 
 -- what is told of a field: its numeral, or that it is none
 abbrev pub Told : List ℕ → Option ℕ → Type 0

@@ -5,7 +5,7 @@ ghost use Rattle.std.specs.Option.{option_map};
 ghost use Rattle.std.specs.Str.{all_ascii_digits};
 ghost use Rattle.fields.specs.Numerals.{Numeral, numeral, read_on};
 ghost use Rattle.fields.specs.Parts.{Cut};
-ghost use Rattle.fields.specs.Rows.{numbers_line};
+ghost use Rattle.fields.specs.Rows.{line_of};
 
 use itoa::Buffer;
 use std::alloc::AllocError;
@@ -20,11 +20,10 @@ fn digits(field: &[u8]) -> Option<u32>
 {
     let mut v = 0u32;
     for c in field {
-        let d = *c;
-        if d < b'0' || d > b'9' {
+        if !c.is_ascii_digit() {
             return None;
         }
-        v = 10 * v + (d - b'0') as u32;
+        v = 10 * v + u32::from(*c - b'0');
     }
     Some(v)
 }
@@ -34,7 +33,7 @@ pub fn number(field: &[u8]) -> Option<u32>
     ensures value { result ≡ numeral field.now }
     ensures cases { MatchOption result ((v : ℕ) → Numeral field.now v → ⊥) (λ v. Numeral field.now v) }
 {
-    if field.len() == 0 || field.len() > DIGITS {
+    if field.is_empty() || field.len() > DIGITS {
         return None;
     }
     if field[0] == b'0' && field.len() > 1 {
@@ -52,14 +51,51 @@ pub fn write_number(out: &mut Vec<u8>, v: u64) -> Result<(), AllocError>
     Ok(())
 }
 
+/// An unsigned number of any width.
+pub trait Unsigned: Copy {
+    ghost value: { Self → ℕ };
+
+    /// The number, as wide as any.
+    fn widened(self) -> u64
+        ensures { result ≡ value self };
+}
+
+impl Unsigned for u16 {
+    ghost value = { λ x. x };
+
+    fn widened(self) -> u64 {
+        u64::from(self)
+    }
+}
+
+impl Unsigned for u64 {
+    ghost value = { λ x. x };
+
+    fn widened(self) -> u64 {
+        self
+    }
+}
+
+impl Unsigned for usize {
+    ghost value = { λ x. x };
+
+    fn widened(self) -> u64 {
+        self as u64
+    }
+}
+
 // Writes a line: a letter, a tab before each number, and a line feed.
-pub fn write_fields(out: &mut Vec<u8>, letter: u8, numbers: &[u64]) -> Result<(), AllocError>
-    ensures { OnOk result (out.new.items ≡ out.old.items ++ numbers_line letter numbers.now) }
+pub fn write_fields<T: Unsigned>(
+    out: &mut Vec<u8>,
+    letter: u8,
+    numbers: &[T],
+) -> Result<(), AllocError>
+    ensures { OnOk result (out.new.items ≡ out.old.items ++ line_of T.value letter numbers.now) }
 {
     out.push(letter)?;
     for x in numbers {
         out.push(b'\t')?;
-        write_number(out, *x)?;
+        write_number(out, x.widened())?;
     }
     out.push(b'\n')?;
     Ok(())

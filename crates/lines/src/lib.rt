@@ -3,13 +3,15 @@
 ghost use Rattle.std.specs.Prelude.{◌≡◌, ℕ, ◌<◌, ◌≤◌, true, false, Some, None, MatchResult, ◌==◌};
 ghost use Rattle.std.specs.Option.{option_map};
 ghost use Rattle.fields.specs.Numerals.{numeral};
+ghost use Rattle.graph.specs.declared.refusal.Refusal.TheVariants.{NoMemory};
 ghost use Rattle.grammar.specs.Lines.{kind_of};
 ghost use Rattle.lines.specs.Rest.{Next, fields_of, count_of};
-ghost use Rattle.lines.specs.Kept.{IsFault, Figured, TwoKept, TwoFault, Kept, LineFault};
+ghost use Rattle.lines.specs.Kept.{Unplaced, IsAt, IsFault, Figured, TwoKept, TwoFault, Kept, LineFault};
 
 use fields::{Piece, cut, number};
 use grammar::Kind;
 use graph::refusal::Refusal;
+use std::alloc::AllocError;
 
 // A field that is a numeral: its bytes, and its number.
 #[derive(Clone, Copy)]
@@ -34,13 +36,53 @@ pub enum Line<'a> {
     End,
 }
 
-// Why a sheet is refused and where: line and field count from 1, and `shown` is the field's bytes.
+// A field of a sheet: line and field count from 1, and `shown` is the field's bytes.
 #[derive(Clone, Copy)]
-pub struct Fault<'a> {
-    pub refusal: Refusal,
+pub struct Place<'a> {
     pub line: usize,
     pub field: usize,
     pub shown: &'a [u8],
+}
+
+// Why a sheet is refused, and where, if a line of it is at fault.
+#[derive(Clone, Copy)]
+pub struct Fault<'a> {
+    pub refusal: Refusal,
+    pub place: Option<Place<'a>>,
+}
+
+impl<'a> Fault<'a> {
+    // The fault of a field.
+    pub fn at(refusal: Refusal, line: usize, field: usize, shown: &'a [u8]) -> Self
+        ensures refusal { result.refusal ≡ refusal }
+        ensures place { IsAt line field shown.now result.place }
+    {
+        Fault {
+            refusal,
+            place: Some(Place { line, field, shown }),
+        }
+    }
+}
+
+// The fault of no line.
+impl<'a> From<Refusal> for Fault<'a> {
+    ghost from_gives = { λ x f. Unplaced x f };
+
+    fn from(refusal: Refusal) -> Self {
+        Fault {
+            refusal,
+            place: None,
+        }
+    }
+}
+
+// The fault of no line that memory is wanting.
+impl<'a> From<AllocError> for Fault<'a> {
+    ghost from_gives = { λ _ f. Unplaced NoMemory f };
+
+    fn from(_error: AllocError) -> Self {
+        Refusal::NoMemory.into()
+    }
 }
 
 // The first field of what is left of a line, empty where nothing is left.
@@ -56,17 +98,13 @@ fn next<'a>(rest: Option<&'a [u8]>) -> Piece<'a>
     }
 }
 
+// By hand: number and line of a field are passed one by one, since a struct for them would be longer at each call.
 fn read_figure<'a>(shown: &'a [u8], field: usize, at: usize) -> Result<Figure<'a>, Fault<'a>>
     ensures { MatchResult result (λ x. Figured shown.now x) (λ f. (numeral shown.now ≡ None) × IsFault 9 at field shown.now f) }
 {
     match number(shown) {
         Some(value) => Ok(Figure { shown, value }),
-        None => Err(Fault {
-            refusal: Refusal::BadLine,
-            line: at,
-            field,
-            shown,
-        }),
+        None => Err(Fault::at(Refusal::BadLine, at, field, shown)),
     }
 }
 
@@ -77,12 +115,7 @@ fn none_left<'a>(rest: Option<&'a [u8]>, field: usize, at: usize) -> Result<(), 
     match rest {
         Some(text) => {
             let shown = cut(text, b'\t').front;
-            Err(Fault {
-                refusal: Refusal::BadLine,
-                line: at,
-                field,
-                shown,
-            })
+            Err(Fault::at(Refusal::BadLine, at, field, shown))
         }
         None => Ok(()),
     }
@@ -103,14 +136,11 @@ fn read_two<'a>(rest: Option<&'a [u8]>, at: usize) -> Result<Two<'a>, Fault<'a>>
 fn kind(field: &[u8]) -> Kind
     ensures { result ≡ kind_of field.now }
 {
-    if field.len() != 1 {
-        return Kind::Other;
-    }
-    match field[0] as char {
-        's' => Kind::Size,
-        'p' => Kind::Clash,
-        'r' => Kind::Remark,
-        'e' => Kind::End,
+    match field {
+        [b's'] => Kind::Size,
+        [b'p'] => Kind::Clash,
+        [b'r'] => Kind::Remark,
+        [b'e'] => Kind::End,
         _ => Kind::Other,
     }
 }
@@ -119,12 +149,7 @@ fn kind(field: &[u8]) -> Kind
 pub fn misplaced<'a>(shown: &'a [u8], at: usize) -> Fault<'a>
     ensures { IsFault 9 at 1 shown.now result }
 {
-    Fault {
-        refusal: Refusal::BadLine,
-        line: at,
-        field: 1,
-        shown,
-    }
+    Fault::at(Refusal::BadLine, at, 1, shown)
 }
 
 // The first line: the size.
@@ -140,10 +165,7 @@ fn first_line<'a>(text: &'a [u8], at: usize) -> Result<Line<'a>, Fault<'a>>
                 m: both.b,
             })
         }
-        Kind::Clash => Err(misplaced(head.front, at)),
-        Kind::Remark => Err(misplaced(head.front, at)),
-        Kind::End => Err(misplaced(head.front, at)),
-        Kind::Other => Err(misplaced(head.front, at)),
+        _ => Err(misplaced(head.front, at)),
     }
 }
 
@@ -165,8 +187,7 @@ fn later_line<'a>(text: &'a [u8], at: usize) -> Result<Line<'a>, Fault<'a>>
             none_left(head.rest, 2, at)?;
             Ok(Line::End)
         }
-        Kind::Size => Err(misplaced(head.front, at)),
-        Kind::Other => Err(misplaced(head.front, at)),
+        Kind::Size | Kind::Other => Err(misplaced(head.front, at)),
     }
 }
 

@@ -1,15 +1,18 @@
 -- The first line of a sheet, and the whole.
-use Rattle.std.proofs.Common.{◌≡◌, ℕ, ◌^◌, ◌<◌, ◌≤◌, true, ◌⊎◌, List, [], ◌∷◌, length, take, drop, Some, None, sym, ap, ◌∙◌, subst, arith}
+use Rattle.std.proofs.Common.{◌≡◌, ℕ, ◌^◌, ◌<◌, ◌≤◌, true, ◌⊎◌, List, [], ◌∷◌, length, take, drop, Some, None, sym, refl, ap, ◌∙◌, subst, arith}
 use Rattle.std.proofs.lemmas.List.{length-append}
 use Rattle.fields.specs.Parts.{parts, Cut}
 use Rattle.graph.specs.declared.edge.Edge.{Edge}
-use Rattle.grammar.specs.Lines.{field, Said, size, wrong, says}
+use Rattle.grammar.specs.Lines.{field, Said, size, clash, remark, ended, wrong, says}
 use Rattle.grammar.specs.Sheet.{Outcome, states, fault, walk, opened, outcome, written, Reads}
 use Rattle.grammar.proofs.Back.{states_both}
 use Rattle.grammar.proofs.Steps.{open_stop, open_line, opened_large, opened_fair, size_long}
-use Rattle.lines.specs.Kept.{told, IsFault, LineFault}
+use Rattle.lines.specs.Kept.{field_of, told, IsFault, Kept, LineFault}
 use Rattle.reading.specs.Read.{Walked, Stated, Begun, ReadInto}
 use Rattle.lines.specs.declared.Fault.{Fault}
+use Rattle.lines.specs.declared.Figure.{Figure}
+use Rattle.lines.specs.declared.Line.{Line}
+use Rattle.lines.specs.declared.Line.TheVariants.{Size, Clash, Remark, End}
 use Rattle.reading.specs.declared.Opened.{Opened}
 
 pub opens_not : (s front : List ℕ) (f : Fault) → Cut 10 s front None → told f ≡ fault 9 1 1 [] → outcome s ≡ told f
@@ -17,7 +20,7 @@ opens_not s front f c e = open_stop s front c.0 ∙ sym e
 
 pub opens_wrong : (s line rest : List ℕ) (f : Fault) → Cut 10 s line (Some rest) → LineFault true line 1 f → outcome s ≡ told f
 opens_wrong s line rest f c w =
-    let t = open_line s line (parts 10 rest) (wrong f.field) c.0 w.says in
+    let t = open_line s line (parts 10 rest) (wrong (field_of f.place)) c.0 w.says in
     let x = w.fault_is.code in let y = w.fault_is.line in let z = w.fault_is.shown in cc
 
 pub opens_misplaced : (s line rest : List ℕ) (f : Fault) (sd : Said) → Cut 10 s line (Some rest) → says true (parts 9 line) ≡ sd → IsFault 9 1 1 (field (parts 9 line) 0) f → opened (parts 9 line) sd (parts 10 rest) ≡ fault 9 1 1 (field (parts 9 line) 0) → outcome s ≡ told f
@@ -25,9 +28,17 @@ opens_misplaced s line rest f sd c e w o =
     let t = open_line s line (parts 10 rest) sd c.0 e in
     let x = w.code in let y = w.line in let z = w.shown in let u = w.field in cc
 
-pub opens_large : (s line rest : List ℕ) (f : Fault) (n m : ℕ) → Cut 10 s line (Some rest) → says true (parts 9 line) ≡ size n m → (1024 < n) ⊎ (16384 < m) → told f ≡ fault 11 1 1 (field (parts 9 line) 0) → outcome s ≡ told f
+pub opens_large : (s line rest : List ℕ) (f : Fault) (n m : ℕ) → Cut 10 s line (Some rest) → says true (parts 9 line) ≡ size n m → (1024 < n) ⊎ (16384 < m) → IsFault 11 1 1 (field (parts 9 line) 0) f → outcome s ≡ told f
 opens_large s line rest f n m c e w q =
-    open_line s line (parts 10 rest) (size n m) c.0 e ∙ opened_large (parts 9 line) (parts 10 rest) n m w ∙ sym q
+    let t = open_line s line (parts 10 rest) (size n m) c.0 e ∙ opened_large (parts 9 line) (parts 10 rest) n m w in
+    let x = q.code in let y = q.line in let z = q.shown in let u = q.field in cc
+
+-- any line but a size line
+pub opens_other : (s line rest : List ℕ) (f : Fault) (l : Line) → Cut 10 s line (Some rest) → Kept true line l → ((n m : Figure) → l ≡ Size n m → ⊥) → IsFault 9 1 1 (field (parts 9 line) 0) f → outcome s ≡ told f
+opens_other s line rest f (Size n m) c k h w = absurd (h n m refl)
+opens_other s line rest f (Clash a b) c k h w = opens_misplaced s line rest f (clash a.value b.value) c k.0 w refl
+opens_other s line rest f (Remark t) c k h w = opens_misplaced s line rest f remark c k.0 w refl
+opens_other s line rest f End c k h w = opens_misplaced s line rest f ended c k w refl
 
 pub opens : (s line : List ℕ) (o : Opened) → Cut 10 s line (Some o.rest.now) → says true (parts 9 line) ≡ size o.size.n o.size.clashes → o.size.n ≤ 1024 → o.size.clashes ≤ 16384 → length s < 2 ^ 64 → Begun s o
 opens s line o c e l h k =

@@ -1,19 +1,23 @@
 -- Where a walk through the lines of a sheet stands.
-use Rattle.std.proofs.Common.{◌≡◌, ℕ, ◌+◌, ◌<◌, ◌≤◌, false, cond, eqb, ltb, List, [], ◌∷◌, ◌++◌, length, take, drop, set, Some, None, Option, sym, refl, ap, ◌∙◌, subst, arith, Bor}
+use Rattle.std.proofs.Common.{◌≡◌, ℕ, ◌+◌, ◌-◌, ◌<◌, ◌≤◌, false, cond, eqb, ltb, List, [], ◌∷◌, ◌++◌, length, take, drop, set, Some, None, Option, sym, refl, ap, ◌∙◌, subst, arith, Bor}
 use Rattle.std.proofs.lemmas.List.{length_push, length-append, length-set, take_more_set, drop-set-lt, drop-drop}
 use Rattle.std.proofs.lemmas.Bool.{ne_eqb}
 use Rattle.fields.specs.Parts.{parts, Cut}
 use Rattle.graph.specs.declared.edge.Edge.{Edge}
 use Rattle.grammar.specs.Lines.{field, Said, size, clash, remark, ended, wrong, says}
 use Rattle.graph.specs.Edges.{edge, latest}
-use Rattle.grammar.specs.Sheet.{Outcome, states, fault, fine, judge, closed, turn, walk}
+use Rattle.graph.specs.Refusals.{number}
+use Rattle.grammar.specs.Sheet.{Outcome, Verdict, refused, states, fault, fine, judge, closed, turn, walk}
 use Rattle.graph.proofs.Edges.{latest_push}
 use Rattle.grammar.proofs.Steps.{walk_stop, walk_line, judged_fine, judged_refused}
 use Rattle.std.specs.Option.{option_map}
 use Rattle.lines.specs.declared.Line.{Line}
-use Rattle.lines.specs.Kept.{told, Refused, IsFault, LineFault, Kept}
+use Rattle.lines.specs.Kept.{line_of, field_of, shown_of, IsAt, told, Refused, IsFault, LineFault, Kept}
+use Rattle.reading.specs.declared.Size.{Size}
+use Rattle.reading.specs.declared.Walk.{Walk}
 use Rattle.reading.specs.Read.{Ends, Filled, Walked}
 use Rattle.lines.specs.declared.Fault.{Fault}
+use Rattle.lines.specs.declared.Place.{Place}
 
 -- behind the lines before `rest`, which stated `done` edges
 pub record Going (n m : ℕ) (text rest : List ℕ) (at done : ℕ) (previous : Option Edge) (before after : List Edge) : Type 0 where
@@ -106,7 +110,7 @@ pub going_wrong : (n m : ℕ) (text rest : List ℕ) (at done : ℕ) (o : Option
 going_wrong n m text rest at done o before after line after_line f g c w =
     let l = g.later in
     let e : eqb at 1 ≡ false = ne_eqb at 1 (λ q. omega arith) in
-    let t = going_line n m text rest at done o before after g line after_line (wrong f.field) c (ap (λ b. says b (parts 9 line)) (sym e) ∙ w.says) in
+    let t = going_line n m text rest at done o before after g line after_line (wrong (field_of f.place)) c (ap (λ b. says b (parts 9 line)) (sym e) ∙ w.says) in
     let x = w.fault_is.code in let y = w.fault_is.line in let z = w.fault_is.shown in cc
 
 pub going_size : (n m : ℕ) (text rest : List ℕ) (at done : ℕ) (o : Option Edge) (before after : List Edge) (line after_line : List ℕ) (f : Fault) (a b : ℕ) → Going n m text rest at done o before after → Cut 10 rest line (Some after_line) → says false (parts 9 line) ≡ size a b → IsFault 9 at 1 (field (parts 9 line) 0) f → walk n m [] 2 (parts 10 text) ≡ told f
@@ -135,9 +139,14 @@ pub kept_later : (at : ℕ) (text : List ℕ) (l k : Line) → 2 ≤ at → Kept
 kept_later at text l k h w e =
     subst (Kept false text) e (subst (λ b. Kept b text l) (ne_eqb at 1 (λ q. omega arith)) w)
 
-pub going_same : (n m : ℕ) (text rest : List ℕ) (at : ℕ) (before : List Edge) (d d' : ℕ) (o o' : Option Edge) (after after' : List Edge) → Going n m text rest at d o before after → d' ≡ d → o' ≡ o → after' ≡ after → Going n m text rest at d' o' before after'
-going_same n m text rest at before d d' o o' after after' g x y z =
-    subst (λ v. Going n m text rest at d' o' before v) (sym z) (subst (λ v. Going n m text rest at d' v before after) (sym y) (subst (λ (v : ℕ). Going n m text rest at v o before after) (sym x) g))
+-- the same of a walk, which keeps the size
+pub record Walking (z : Size) (text rest : List ℕ) (at : ℕ) (w : Walk) (before after : List Edge) : Type 0 where
+  pub same : w.size ≡ z
+  pub going : Going z.n z.clashes text rest at w.done w.previous before after
+
+pub walks_on : (z : Size) (text rest : List ℕ) (at : ℕ) (before : List Edge) (w u : Walk) (after new : List Edge) → u ≡ w → new ≡ after → w.size ≡ z → Going z.n z.clashes text rest at w.done w.previous before after → Walking z text rest at u before new
+walks_on z text rest at before w u after new e f h g =
+    subst (λ v. Walking z text rest at v before new) (sym e) (subst (Walking z text rest at w before) (sym f) (record { same = h; going = g }))
 
 -- the buffer behind an edge that is written where there is room
 pub filled_then : (before after new : List Edge) (e : Edge) (done : ℕ) → length after ≡ length before → done < length after → new ≡ set after done e → (length new ≡ length after) × ((es : List Edge) → length es ≡ done → Filled before after es → Filled before new (es ++ e ∷ []))
@@ -149,3 +158,16 @@ filled_then before after new e done l h w = (
 pub filled_else : (before after new : List Edge) (e : Edge) (done : ℕ) → length after ≡ length before → length after ≤ done → new ≡ after → (length new ≡ length after) × ((es : List Edge) → length es ≡ done → Filled before after es → Filled before new (es ++ e ∷ []))
 filled_else before after new e done l h w =
     (ap length w, λ es c f. subst (λ v. Filled before v (es ++ e ∷ [])) (sym w) (filled_full before after es e l (omega arith)))
+
+-- a refused clash, and its fault
+pub refused_at : (v : Verdict) (text : List ℕ) (k x j : ℕ) (f : Fault) → v ≡ refused x j → number f.refusal ≡ x → line_of f.place ≡ k → field_of f.place ≡ j → shown_of f.place ≡ field (parts 9 text) (j - 1) → Refused v text k f
+refused_at v text k x j f e c l i s =
+    record {
+      verdict = e ∙ ap (λ (y : ℕ). refused y j) (sym c) ∙ ap (refused (number f.refusal)) (sym i);
+      line = l;
+      shown = s ∙ ap (λ (y : ℕ). field (parts 9 text) (y - 1)) (sym i);
+    }
+
+pub placed : (k j : ℕ) (bytes : List ℕ) (o : Option Place) → IsAt k j bytes o → (line_of o ≡ k) × (field_of o ≡ j) × (shown_of o ≡ bytes)
+placed k j bytes None h = absurd h
+placed k j bytes (Some p) h = h

@@ -7,13 +7,14 @@ ghost use Rattle.graph.specs.declared.edge.Edge.{Edge as Pair};
 ghost use Rattle.grammar.specs.Lines.{field};
 ghost use Rattle.graph.specs.Edges.{edge, above, Good};
 ghost use Rattle.grammar.specs.Sheet.{judge, fine, closed, states, fault, walk, outcome, limit, written, plain, Reads};
-ghost use Rattle.lines.specs.Kept.{told, Refused};
+ghost use Rattle.graph.specs.Refusals.{number};
+ghost use Rattle.lines.specs.Kept.{IsFault, told, Refused};
 ghost use Rattle.reading.specs.Read.{Begun, Ends, ReadInto, Stated, Walked};
 
 use fields::cut;
 use graph::edge::Edge;
 use graph::refusal::Refusal;
-use lines::{Fault, Figure, Line, letter, misplaced, read_line};
+use lines::{Fault, Figure, Line, letter, read_line};
 
 // The most numbers and the most clashes of a stock.
 const NUMBERS: u32 = 1024;
@@ -27,99 +28,85 @@ pub struct Size {
     pub clashes: u32,
 }
 
-// The clash of a line, where `done` clashes stand before it and `previous` is the last of them.
-fn judge_line<'a>(
+// A line of a sheet, without its line feed, and which it is.
+#[derive(Clone, Copy)]
+struct Numbered<'a> {
     text: &'a [u8],
     at: usize,
+}
+
+impl<'a> Numbered<'a> {
+    // The fault of the line's first field.
+    fn refused(self, refusal: Refusal) -> Fault<'a>
+        ensures { IsFault (number refusal) self.entry.at 1 (field (parts 9 self.entry.text.now) 0) result }
+    {
+        Fault::at(refusal, self.at, 1, letter(self.text))
+    }
+}
+
+// How far the lines are walked: the size that was announced, how many clashes stood, and the last of them.
+#[derive(Clone, Copy)]
+struct Walk {
     size: Size,
     done: u32,
     previous: Option<Edge>,
-    a: Figure<'a>,
-    b: Figure<'a>,
-) -> Result<Edge, Fault<'a>>
-    requires small { size.n ≤ 1024 }
-    requires shown { (a.shown.now ≡ field (parts 9 text.now) 1) × (b.shown.now ≡ field (parts 9 text.now) 2) }
-    ensures { MatchResult result (λ e. (judge size.n size.clashes done previous a.entry.value b.entry.value ≡ fine) × (e ≡ edge a.entry.value b.entry.value)) (λ f. Refused (judge size.n size.clashes done previous a.entry.value b.entry.value) text.now at f) }
-{
-    if done >= size.clashes {
-        return Err(Fault {
-            refusal: Refusal::Miscounted,
-            line: at,
-            field: 1,
-            shown: letter(text),
-        });
-    }
-    if a.value >= size.n {
-        return Err(Fault {
-            refusal: Refusal::OutOfRange,
-            line: at,
-            field: 2,
-            shown: a.shown,
-        });
-    }
-    if b.value >= size.n {
-        return Err(Fault {
-            refusal: Refusal::OutOfRange,
-            line: at,
-            field: 3,
-            shown: b.shown,
-        });
-    }
-    let e = Edge {
-        a: a.value as u16,
-        b: b.value as u16,
-    };
-    if a.value < b.value && e.is_above(previous) {
-        return Ok(e);
-    }
-    Err(Fault {
-        refusal: Refusal::Unordered,
-        line: at,
-        field: 1,
-        shown: letter(text),
-    })
 }
 
-// The end line, behind `done` clashes; `more` is what follows it.
-fn finish<'a>(
-    text: &'a [u8],
-    at: usize,
-    size: Size,
-    done: u32,
-    more: &'a [u8],
-) -> Result<(), Fault<'a>>
-    requires { at + 1 < 2 ^ 64 }
-    ensures { MatchResult result (λ _. Ends size.n size.clashes text.now at done more.now (λ n es. states n es)) (λ f. Ends size.n size.clashes text.now at done more.now (λ _ _. told f)) }
-{
-    if done < size.clashes {
-        return Err(Fault {
-            refusal: Refusal::Miscounted,
-            line: at,
-            field: 1,
-            shown: letter(text),
-        });
+impl Walk {
+    // The clash of the next line.
+    fn judge_line<'a>(
+        self,
+        line: Numbered<'a>,
+        a: Figure<'a>,
+        b: Figure<'a>,
+    ) -> Result<Edge, Fault<'a>>
+        requires small { self.size.n ≤ 1024 }
+        requires shown { (a.shown.now ≡ field (parts 9 line.text.now) 1) × (b.shown.now ≡ field (parts 9 line.text.now) 2) }
+        ensures { MatchResult result (λ e. (judge self.size.n self.size.clashes self.done self.previous a.entry.value b.entry.value ≡ fine) × (e ≡ edge a.entry.value b.entry.value)) (λ f. Refused (judge self.size.n self.size.clashes self.done self.previous a.entry.value b.entry.value) line.entry.text.now line.entry.at f) }
+    {
+        if self.done >= self.size.clashes {
+            return Err(line.refused(Refusal::Miscounted));
+        }
+        if a.value >= self.size.n {
+            return Err(Fault::at(Refusal::OutOfRange, line.at, 2, a.shown));
+        }
+        if b.value >= self.size.n {
+            return Err(Fault::at(Refusal::OutOfRange, line.at, 3, b.shown));
+        }
+        let e = Edge {
+            a: a.value as u16,
+            b: b.value as u16,
+        };
+        if a.value < b.value && e.is_above(self.previous) {
+            return Ok(e);
+        }
+        Err(line.refused(Refusal::Unordered))
     }
-    if more.len() > 0 {
-        return Err(Fault {
-            refusal: Refusal::BadLine,
-            line: at + 1,
-            field: 1,
-            shown: letter(cut(more, b'\n').front),
-        });
+
+    // The end line; `more` is what follows it.
+    fn finish<'a>(self, line: Numbered<'a>, more: &'a [u8]) -> Result<(), Fault<'a>>
+        requires { line.at + 1 < 2 ^ 64 }
+        ensures { MatchResult result (λ _. Ends self.size.n self.size.clashes line.entry.text.now line.entry.at self.done more.now (λ n es. states n es)) (λ f. Ends self.size.n self.size.clashes line.entry.text.now line.entry.at self.done more.now (λ _ _. told f)) }
+    {
+        if self.done < self.size.clashes {
+            return Err(line.refused(Refusal::Miscounted));
+        }
+        if !more.is_empty() {
+            let next = Numbered {
+                text: cut(more, b'\n').front,
+                at: line.at + 1,
+            };
+            return Err(next.refused(Refusal::BadLine));
+        }
+        Ok(())
     }
-    Ok(())
 }
 
 // Input that stops before its end.
 fn early<'a>(at: usize) -> Fault<'a>
     ensures { told result ≡ fault 9 at 1 [] }
 {
-    Fault {
-        refusal: Refusal::BadLine,
-        line: at,
-        field: 1,
-        shown: &[],
-    }
+    Fault::at(Refusal::BadLine, at, 1, &[])
 }
 
 // Reads the lines behind the size line, keeps the clashes for which there is room, and counts them.
@@ -131,27 +118,35 @@ fn walk_lines<'a>(text: &'a [u8], size: Size, edges: &mut [Edge]) -> Result<u32,
 {
     let mut rest = text;
     let mut at = 2usize;
-    let mut done = 0u32;
-    let mut previous = None;
+    let mut walk = Walk {
+        size,
+        done: 0,
+        previous: None,
+    };
+    // By hand: the end line needs what is left behind it, which an iterator over lines keeps to itself.
     loop {
         let piece = cut(rest, b'\n');
         let Some(more) = piece.rest else {
             return Err(early(at));
         };
+        let line = Numbered {
+            text: piece.front,
+            at,
+        };
         match read_line(piece.front, at)? {
-            Line::Size { n: _, m: _ } => return Err(misplaced(letter(piece.front), at)),
+            Line::Size { .. } => return Err(line.refused(Refusal::BadLine)),
             Line::Clash { a, b } => {
-                let e = judge_line(piece.front, at, size, done, previous, a, b)?;
-                if (done as usize) < edges.len() {
-                    edges[done as usize] = e;
+                let e = walk.judge_line(line, a, b)?;
+                if (walk.done as usize) < edges.len() {
+                    edges[walk.done as usize] = e;
                 }
-                done += 1;
-                previous = Some(e);
+                walk.done += 1;
+                walk.previous = Some(e);
             }
             Line::Remark(_) => {}
             Line::End => {
-                finish(piece.front, at, size, done, more)?;
-                return Ok(done);
+                walk.finish(line, more)?;
+                return Ok(walk.done);
             }
         }
         rest = more;
@@ -173,28 +168,23 @@ fn open_sheet<'a>(sheet: &'a [u8]) -> Result<Opened<'a>, Fault<'a>>
     let Some(rest) = piece.rest else {
         return Err(early(1));
     };
-    match read_line(piece.front, 1)? {
-        Line::Size { n, m } => {
-            if n.value > NUMBERS || m.value > CLASHES {
-                return Err(Fault {
-                    refusal: Refusal::TooLarge,
-                    line: 1,
-                    field: 1,
-                    shown: letter(piece.front),
-                });
-            }
-            Ok(Opened {
-                size: Size {
-                    n: n.value,
-                    clashes: m.value,
-                },
-                rest,
-            })
-        }
-        Line::Clash { a: _, b: _ } => Err(misplaced(letter(piece.front), 1)),
-        Line::Remark(_) => Err(misplaced(letter(piece.front), 1)),
-        Line::End => Err(misplaced(letter(piece.front), 1)),
+    let line = Numbered {
+        text: piece.front,
+        at: 1,
+    };
+    let Line::Size { n, m } = read_line(piece.front, 1)? else {
+        return Err(line.refused(Refusal::BadLine));
+    };
+    if n.value > NUMBERS || m.value > CLASHES {
+        return Err(line.refused(Refusal::TooLarge));
     }
+    Ok(Opened {
+        size: Size {
+            n: n.value,
+            clashes: m.value,
+        },
+        rest,
+    })
 }
 
 // What the sheet states of its size, or its first fault.
@@ -218,12 +208,7 @@ pub fn read_edges<'a>(sheet: &'a [u8], edges: &mut [Edge]) -> Result<Size, Fault
     let mut none: [Edge; 0] = [];
     let count = walk_lines(opened.rest, opened.size, &mut none)?;
     if edges.len() < count as usize {
-        return Err(Fault {
-            refusal: Refusal::ShortBuffer,
-            line: 0,
-            field: 0,
-            shown: &[],
-        });
+        return Err(Refusal::ShortBuffer.into());
     }
     let clashes = walk_lines(opened.rest, opened.size, edges)?;
     Ok(Size {

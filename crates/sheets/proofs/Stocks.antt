@@ -14,22 +14,16 @@ use Rattle.grammar.specs.Sheet.{states, fault, outcome, limit, written, Reads}
 use Rattle.grammar.proofs.Forth.{reads_states, reads_one, written_reads}
 use Rattle.grammar.proofs.Back.{states_both}
 use Rattle.lines.specs.declared.Fault.{Fault}
-use Rattle.lines.specs.Kept.{told}
+use Rattle.lines.specs.Kept.{line_of, field_of, shown_of, told, Unplaced}
 use Rattle.reading.specs.Read.{Stated, ReadInto as EdgesInto}
 use Rattle.forms.proofs.Forms.{has_edges, one_form, one_edges}
 use Rattle.sheets.specs.Into.{short, Unread, LaidInto, ReadInto}
 use Rattle.sheets.specs.Loaded.{Loaded, Rewritten}
 use Rattle.sheets.proofs.Lays.{not_bad}
 
--- the fault is of no line, and has this refusal
-pub record Unplaced (x : Refusal) (f : Fault) : Type 0 where
-  pub refusal : f.refusal ≡ x
-  pub line : f.line ≡ 0
-  pub field : f.field ≡ 0
-  pub shown : f.shown.now ≡ []
-
 pub unplaced_told : (x : Refusal) (f : Fault) → Unplaced x f → told f ≡ fault (number x) 0 0 []
-unplaced_told x f u = let a = u.refusal in let b = u.line in let c = u.field in let d = u.shown in let n = ap number a in cc
+unplaced_told x f u =
+    ap (λ (y : Refusal). fault (number y) (line_of f.place) (field_of f.place) (shown_of f.place)) u.refusal ∙ ap (λ o. fault (number x) (line_of o) (field_of o) (shown_of o)) u.place
 
 pub stated_outcome : (s : List ℕ) (n m : ℕ) (w : Stated s n m) → outcome s ≡ states n w.edges
 stated_outcome s n m w = reads_states s n w.edges w.reads

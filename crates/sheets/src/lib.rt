@@ -5,5 +5,5 @@ mod laying_out;
 mod loading;
 mod rounds;
 
-pub use loading::{load, read, unplaced};
+pub use loading::{load, read};
 pub use rounds::{reread, rewrite};

@@ -12,21 +12,6 @@ use reading::{Size, check, read_edges};
 use sources::list_form::ListForm;
 use std::alloc::Global;
 
-/// A fault of no line.
-pub fn unplaced<'a>(refusal: Refusal) -> Fault<'a>
-    ensures refusal { result.refusal ≡ refusal }
-    ensures line { result.line ≡ 0 }
-    ensures field { result.field ≡ 0 }
-    ensures shown { result.shown.now ≡ [] }
-{
-    Fault {
-        refusal,
-        line: 0,
-        field: 0,
-        shown: &[],
-    }
-}
-
 /// Reads a sheet into lent offsets and neighbours. All lines are tested first, and then whether there is room.
 pub fn read<'a>(
     heap: Global,
@@ -40,16 +25,12 @@ pub fn read<'a>(
     let n = size.n as usize;
     let count = size.clashes as usize;
     if offsets.len() < n + 1 || neighbours.len() < count + count {
-        return Err(unplaced(Refusal::ShortBuffer));
+        return Err(Refusal::ShortBuffer.into());
     }
-    let Ok(mut edges) = vec![in heap; Edge { a: 0, b: 0 }; count] else {
-        return Err(unplaced(Refusal::NoMemory));
-    };
+    let mut edges = vec![in heap; Edge { a: 0, b: 0 }; count]?;
     read_edges(sheet, edges.as_mut_slice())?;
-    match lay_out(n, edges.as_slice(), offsets, neighbours) {
-        Ok(()) => Ok(size),
-        Err(refusal) => Err(unplaced(refusal)),
-    }
+    lay_out(n, edges.as_slice(), offsets, neighbours)?;
+    Ok(size)
 }
 
 /// Reads a sheet as a list form.
@@ -59,20 +40,14 @@ pub fn load<'a>(heap: Global, sheet: &'a [u8]) -> Result<ListForm, Fault<'a>>
     let size = check(sheet)?;
     let rows = size.n as usize;
     let clashes = size.clashes as usize;
-    let Ok(mut offsets) = vec![in heap; 0u16; rows + 1] else {
-        return Err(unplaced(Refusal::NoMemory));
-    };
-    let Ok(mut neighbours) = vec![in heap; 0u16; clashes + clashes] else {
-        return Err(unplaced(Refusal::NoMemory));
-    };
+    let mut offsets = vec![in heap; 0u16; rows + 1]?;
+    let mut neighbours = vec![in heap; 0u16; clashes + clashes]?;
     read(
         heap,
         sheet,
         offsets.as_mut_slice(),
         neighbours.as_mut_slice(),
     )?;
-    match ListForm::filled(heap, offsets.as_slice(), neighbours.as_slice()) {
-        Ok(form) => Ok(form),
-        Err(refusal) => Err(unplaced(refusal)),
-    }
+    let form = ListForm::filled(heap, offsets.as_slice(), neighbours.as_slice())?;
+    Ok(form)
 }

@@ -1,5 +1,5 @@
 -- What the program prints of a stock.
-use Rattle.std.specs.Prelude.{◌≡◌, ℕ, zero, suc, ◌<◌, ◌≤◌, Bool, ◌⊎◌, List, [], ◌∷◌, ◌++◌, length, slice_index}
+use Rattle.std.specs.Prelude.{◌≡◌, ℕ, ◌<◌, ◌≤◌, Bool, ◌⊎◌, List, [], ◌∷◌, ◌++◌, length, slice_index}
 use Rattle.fields.specs.Rows.{numbers_line}
 use Rattle.finite.specs.Finite.{members}
 use Rattle.graph.specs.Graph.{Graph, held, vertices}
@@ -12,12 +12,7 @@ use Rattle.degeneracy.specs.Greedy.{IsPlan}
 use Rattle.order.specs.Order.{Dense}
 use Rattle.grammar.specs.Sheet.{fault, outcome}
 use Rattle.sheets.specs.Loaded.{Loaded}
-use Rattle.printout.specs.Printed.{refusal}
-
--- the letter d with a cartridge and its drive, for each number below n
-unfoldable pub drive_lines : List ℕ → ℕ → List ℕ
-drive_lines col zero = []
-drive_lines col (suc c) = drive_lines col c ++ numbers_line 100 (c ∷ slice_index col c ∷ [])
+use Rattle.printout.specs.Printed.{drive_lines, refusal}
 
 -- the letter n with how many are held, the degeneracy, the size of the block and the drives; the letter k with the
 -- block; then the drive of each

@@ -11,6 +11,7 @@ pub struct Laying {
     pub(crate) n: usize,
     pub(crate) clashes: usize,
     pub(crate) previous: Option<Edge>,
+    // By hand: a state that is moved keeps its rows in plain tables, with their number beside them.
     pub(crate) next: [u16; 1024],
     pub(crate) left: [u16; 1024],
     ghost small: { n ≤ 1024 },

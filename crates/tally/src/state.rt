@@ -12,6 +12,7 @@ pub struct Tally {
     n: usize,
     clashes: usize,
     previous: Option<Edge>,
+    // By hand: a state that is moved keeps its rows in a plain table, with their number beside it.
     lengths: [u16; 1024],
     ghost small: { n ≤ 1024 },
     ghost few: { clashes ≤ 16384 },

@@ -1,10 +1,11 @@
 -- What is left after peeling, listed and tried.
-use Rattle.std.proofs.Common.{◌≡◌, ℕ, zero, suc, ◌+◌, ◌-◌, ◌<◌, ◌≤◌, Bool, true, List, [], ◌∷◌, length, get_or, take, Some, sym, refl, ap, ◌∙◌, subst, inl, inr, arith}
+use Rattle.std.proofs.Common.{◌≡◌, ℕ, ◌+◌, ◌-◌, ◌<◌, ◌≤◌, Bool, true, false, cond, List, [], ◌∷◌, ◌++◌, length, get_or, take, sym, refl, ap, ◌∙◌, subst, inl, inr, add-one, arith}
+use Rattle.std.proofs.lemmas.List.{append-nil}
 use Rattle.std.proofs.lemmas.Bool.{both_ways, cases_lt, le-ltb}
 use Rattle.std.proofs.lemmas.Bool.Decides.{nat_tests}
-use Rattle.finite.specs.Finite.{count, members, nth}
+use Rattle.finite.specs.Finite.{count, members}
 use Rattle.finite.proofs.Counts.{count_same}
-use Rattle.finite.proofs.Members.{length_members, count_rise, members_at, members_some}
+use Rattle.finite.proofs.Members.{length_members, count_rise, members_at, members_some, nth_in}
 use Rattle.finite.proofs.Rising.{nth-get_or}
 use Rattle.graph.specs.Graph.{Graph, held}
 use Rattle.graph.proofs.Graphs.{inside_same, vertices_le}
@@ -32,15 +33,25 @@ plenty n E k l none =
       apart = λ i j h m y e. let z : i ≡ j = omega arith in both_ways (E i j) (ap (E i) (sym z) ∙ none i h) y;
     }
 
--- the members of a set, listed
-nth_is : (xs : List ℕ) (i : ℕ) → i < length xs → nth xs i ≡ Some (get_or xs i 0)
-nth_is [] i l = absurd (omega arith)
-nth_is (x ∷ xs) zero l = refl
-nth_is (x ∷ xs) (suc i) l = nth_is xs i (omega arith)
+-- the members of a set below one number more
+pub members_yes : (t : ℕ → Bool) (c : ℕ) (xs new : List ℕ) → xs ≡ members t c → t c ≡ true → new ≡ xs ++ c ∷ [] → new ≡ members t (c + 1)
+unfolding members
+members_yes t c xs new e y f =
+    f ∙ ap (λ zs. zs ++ c ∷ []) e ∙ sym (ap (members t) (add-one c) ∙ ap (λ (b : Bool). members t c ++ cond b (c ∷ []) []) y)
 
+pub members_no : (t : ℕ → Bool) (c : ℕ) (xs : List ℕ) → xs ≡ members t c → t c ≡ false → xs ≡ members t (c + 1)
+unfolding members
+members_no t c xs e z =
+    e ∙ sym (ap (members t) (add-one c) ∙ ap (λ (b : Bool). members t c ++ cond b (c ∷ []) []) z ∙ append-nil (members t c))
+
+pub members_none : (t : ℕ → Bool) → [] ≡ members t 0
+unfolding members
+members_none t = refl
+
+-- the members of a set, listed
 pub members_list : (s : ℕ → Bool) (n : ℕ) → ((c : ℕ) → s c ≡ true → c < n) → Lists s (members s n)
 members_list s n below =
-    let part : (i : ℕ) → i < length (members s n) → (get_or (members s n) i 0 < n) × (s (get_or (members s n) i 0) ≡ true) × (count s (get_or (members s n) i 0) ≡ i) = λ i l. members_some s n i (get_or (members s n) i 0) (nth_is (members s n) i l) in
+    let part : (i : ℕ) → i < length (members s n) → (get_or (members s n) i 0 < n) × (s (get_or (members s n) i 0) ≡ true) × (count s (get_or (members s n) i 0) ≡ i) = λ i l. members_some s n i (get_or (members s n) i 0) (nth_in (members s n) i l) in
     record {
       only = λ i l. (part i l).1;
       all = λ c y. (count s c, (let a = count_rise s c n (below c y) y in let b = length_members s n in omega arith), nth-get_or (members s n) (count s c) c (members_at s n c (count s c) (below c y) y refl));
@@ -86,7 +97,7 @@ pub front_is : (xs : List ℕ) (k : ℕ) → take (k - 0) xs ≡ take k xs
 front_is xs k = let z : k - 0 ≡ k = omega arith in ap (λ (i : ℕ). take i xs) z
 
 -- what was pulled, and drawn or too wide
-module _ (g : Graph) (t : ℕ) (living living' taken taken' list chosen : List ℕ) (gone kept n : ℕ) (h : CoreIn g t living living' taken taken' gone) (size : n ≡ g.size) (items : take kept list ≡ members (alive n living') n) (part : chosen ≡ take kept list) where
+module _ (g : Graph) (t : ℕ) (living living' taken taken' list chosen : List ℕ) (gone n : ℕ) (h : CoreIn g t living living' taken taken' gone) (size : n ≡ g.size) (items : list ≡ members (alive n living') n) (part : chosen ≡ list) where
   listed_is : chosen ≡ members (alive g.size living') g.size
   listed_is = part ∙ items ∙ ap (λ (i : ℕ). members (alive i living') i) size
 
@@ -95,7 +106,7 @@ module _ (g : Graph) (t : ℕ) (living living' taken taken' list chosen : List �
       let a = ap length listed_is ∙ length_members (alive g.size living') g.size ∙ count_same (alive g.size living') (survivors g (take gone taken')) g.size (λ c m. living_left g t living living' taken taken' gone h c) in
       record { taken = take gone taken'; left = core_left g t living living' taken taken' gone h; many = omega arith }
 
-  pub pull_drawn : (q : Kernel) → length chosen ≤ 256 → Draws g chosen q → PulledIn g t (take kept list) (take gone taken') q
+  pub pull_drawn : (q : Kernel) → length chosen ≤ 256 → Draws g chosen q → PulledIn g t list (take gone taken') q
   pull_drawn q l d =
       let few = d.size in
       record {

@@ -1,5 +1,5 @@
 -- What is printed of the trial of a stock.
-use Rattle.std.specs.Prelude.{◌≡◌, ℕ, zero, suc, ◌+◌, ◌-◌, ◌<◌, ◌≤◌, ◌⊎◌, List, [], ◌∷◌, ◌++◌, length, slice_index}
+use Rattle.std.specs.Prelude.{◌≡◌, ℕ, zero, suc, ◌+◌, ◌-◌, ◌<◌, ◌≤◌, ◌⊎◌, List, [], ◌∷◌, ◌++◌, length}
 use Rattle.fields.specs.Rows.{numbers_line}
 use Rattle.graph.specs.Graph.{Graph}
 use Rattle.rows.specs.Rows.{listed}
@@ -7,7 +7,7 @@ use Rattle.order.specs.Order.{Dense}
 use Rattle.putback.specs.Backs.{paint}
 use Rattle.grammar.specs.Sheet.{fault, outcome}
 use Rattle.sheets.specs.Loaded.{Loaded}
-use Rattle.printout.specs.Printed.{refusal}
+use Rattle.printout.specs.Printed.{drive_lines, refusal}
 use Rattle.trying.specs.Trying.{TriedOut, IsTooWide}
 
 -- the letter t, a number of drives and 0, so many times from the first on
@@ -19,18 +19,13 @@ no_lines first (suc i) = no_lines first i ++ numbers_line 116 ((first + i) ∷ 0
 abbrev pub try_lines : ℕ → ℕ → List ℕ
 try_lines first k = no_lines first (k - first) ++ numbers_line 116 (k ∷ 1 ∷ [])
 
--- the letter d, a cartridge and its drive, for each number below n
-unfoldable pub home_lines : List ℕ → ℕ → List ℕ
-home_lines col zero = []
-home_lines col (suc c) = home_lines col c ++ numbers_line 100 (c ∷ slice_index col c ∷ [])
-
 -- the tries of a graph from the size of a largest clique on, and the colouring that was found
 pub record Shown (g : Graph) (out : List ℕ) : Type 0 where
   pub first : ℕ
   pub drives : ℕ
   pub plan : List ℕ
   pub tried : TriedOut g first drives (paint plan)
-  pub text : out ≡ try_lines first drives ++ home_lines plan g.size
+  pub text : out ≡ try_lines first drives ++ drive_lines plan g.size
 
 -- the graph is too dense, its kernel too wide, or its trial is shown
 abbrev pub Told : Graph → List ℕ → Type 0

@@ -2,18 +2,14 @@
 #![tactic(auto)]
 
 ghost use Rattle.std.specs.Prelude.{◌≡◌, ◌≤◌, ◌⊎◌, IfOk, MatchResult};
-ghost use Rattle.graph.specs.Refusals.{number};
-ghost use Rattle.printout.specs.Printed.{refusal};
 ghost use Rattle.rows.specs.Rows.{listed};
 ghost use Rattle.trying.specs.Shown.{Prints, Shown};
 ghost use Rattle.trying.specs.Trying.{TryRefused};
 
 use graph::Source;
 use graph::refusal::Refusal;
-use lines::Fault;
 use printing::write_trial;
-use printout::{LIMIT, write_refusal};
-use sheets::{load, unplaced};
+use printout::print_stock;
 use sources::list_form::ListForm;
 use std::alloc::{AllocError, Global};
 
@@ -30,24 +26,8 @@ fn show_form(heap: Global, form: &ListForm) -> Result<Vec<u8>, Refusal>
 {
     let mut colours = [0u16; 1024];
     let trial = try_out(form, &mut colours)?;
-    match write_trial(heap, trial, &colours, form.size()) {
-        Ok(text) => Ok(text),
-        Err(_) => Err(Refusal::NoMemory),
-    }
-}
-
-// The tries of the stock of a sheet and the drives found, or the fault.
-fn show_sheet<'a>(heap: Global, input: &'a [u8]) -> Result<Vec<u8>, Fault<'a>>
-    ensures { MatchResult result (λ v. Prints input.now v.items) (λ f. Prints input.now (refusal (number f.refusal) f.line f.field)) }
-{
-    if input.len() > LIMIT {
-        return Err(unplaced(Refusal::ShortBuffer));
-    }
-    let form = load(heap, input)?;
-    match show_form(heap, &form) {
-        Ok(text) => Ok(text),
-        Err(refusal) => Err(unplaced(refusal)),
-    }
+    let text = write_trial(heap, trial, &colours[..form.size()])?;
+    Ok(text)
 }
 
 /// The whole printout for what was read: each number of drives tried, with 0 for a no and 1 for the yes, and then the
@@ -55,8 +35,5 @@ fn show_sheet<'a>(heap: Global, input: &'a [u8]) -> Result<Vec<u8>, Fault<'a>>
 pub fn respond(heap: Global, input: &[u8]) -> Result<Vec<u8>, AllocError>
     ensures { IfOk result (λ v. Prints input.now v.items) }
 {
-    match show_sheet(heap, input) {
-        Ok(text) => Ok(text),
-        Err(fault) => write_refusal(heap, &fault),
-    }
+    print_stock(heap, input, |form| show_form(heap, form))
 }

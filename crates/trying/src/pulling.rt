@@ -7,6 +7,7 @@ ghost use Rattle.peels.specs.Peels.{CliqueNumber};
 ghost use Rattle.supports.specs.Peel.{alive};
 ghost use Rattle.trying.specs.Trying.{PulledIn, Wide};
 
+use arrayvec::ArrayVec;
 use bounds::ClassBound;
 use climb::climb_all;
 use cores::core;
@@ -15,29 +16,27 @@ use graph::{Listed, Source};
 use kernels::Kernel;
 use order::removal_order;
 
-/// How many vertices are left, and how many were taken out.
-#[derive(Clone, Copy)]
+/// The vertices that are left, rising, and how many were taken out.
+// By hand: those taken out stand in the buffer that is lent to `core`, so their number is kept beside it.
+#[derive(Drop)]
 pub struct Pulled {
-    pub kept: usize,
+    pub chosen: ArrayVec<u16, 1024>,
     pub gone: usize,
 }
 
-// Writes the numbers below n whose byte is 1, rising, and says how many there are.
-fn list_living(living: &[u8], n: usize, list: &mut [u16]) -> usize
+// The numbers below n whose byte is 1, rising.
+fn list_living(living: &[u8], n: usize) -> ArrayVec<u16, 1024>
     requires small { n ≤ 1024 }
     requires fits { n ≤ length living.now }
-    requires room { n ≤ length list.old }
-    ensures within { result ≤ n }
-    ensures items { take result list.new ≡ members (alive n living.now) n }
+    ensures { result.items ≡ members (alive n living.now) n }
 {
-    let mut len = 0;
-    for c in 0..n {
-        if living[c] == 1 {
-            list[len] = c as u16;
-            len += 1;
+    let mut list = ArrayVec::new();
+    for (c, life) in living[..n].iter().enumerate() {
+        if *life == 1 {
+            list.push(c as u16);
         }
     }
-    len
+    list
 }
 
 /// The size of a largest clique.
@@ -57,14 +56,13 @@ pub fn pull<S: Listed>(
     source: &S,
     least: usize,
     kernel: &mut Kernel,
-    chosen: &mut [u16; 1024],
     taken: &mut [u16; 1024],
 ) -> Result<Pulled, Refusal>
-    ensures { MatchResult result (λ p. (p.kept ≤ 1024) × (p.gone ≤ 1024) × PulledIn (S.Source.graph source.now) least (take p.kept chosen.new) (take p.gone taken.new) kernel.new) (λ x. (x ≡ Refusal.TooWide) × Wide (S.Source.graph source.now) least) }
+    ensures { MatchResult result (λ p. (p.gone ≤ 1024) × PulledIn (S.Source.graph source.now) least p.chosen.items (take p.gone taken.new) kernel.new) (λ x. (x ≡ Refusal.TooWide) × Wide (S.Source.graph source.now) least) }
 {
     let mut living = [0u8; 1024];
     let gone = core(source, least, &mut living, taken)?;
-    let kept = list_living(&living, source.size(), chosen);
-    kernel.draw(source, &chosen[0..kept])?;
-    Ok(Pulled { kept, gone })
+    let chosen = list_living(&living, source.size());
+    kernel.draw(source, chosen.as_slice())?;
+    Ok(Pulled { chosen, gone })
 }

@@ -12,10 +12,7 @@ fn try_at(kernel: &Kernel, table: &mut [u16], k: usize) -> bool
     requires { places kernel.now ≤ length table.old }
     ensures { Tried kernel.now k table.old table.new result }
 {
-    match colour(kernel, table, k) {
-        Ok(yes) => yes,
-        Err(_) => false,
-    }
+    colour(kernel, table, k).unwrap()
 }
 
 // The first number from `from` on in which the kernel has a proper colouring, which then stands in the table.
@@ -23,6 +20,7 @@ pub fn first_yes(kernel: &Kernel, from: usize, table: &mut [u16]) -> usize
     requires { places kernel.now ≤ length table.old }
     ensures { FirstYes kernel.now from result table.new }
 {
+    // By hand: a try writes the table, so it is no test for a chain over numbers.
     let mut k = from;
     while !try_at(kernel, table, k) {
         k += 1;

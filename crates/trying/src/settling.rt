@@ -5,7 +5,7 @@ ghost use Rattle.putback.specs.Backs.{paint};
 ghost use Rattle.trying.specs.Trying.{PulledIn, TryRefused, TriedOut};
 ghost use Rattle.std.specs.Prelude.{◌≡◌, MatchResult};
 
-use crate::pulling::{block_size, pull};
+use crate::pulling::{Pulled, block_size, pull};
 use crate::rounds::first_yes;
 use graph::refusal::Refusal;
 use graph::{Listed, Source};
@@ -46,15 +46,13 @@ pub fn try_out<S: Listed>(source: &S, colours: &mut [u16; 1024]) -> Result<Trial
 {
     let first = block_size(source)?;
     let mut kernel = Kernel::empty();
-    let mut chosen = [0u16; 1024];
     let mut taken = [0u16; 1024];
-    let pulled = pull(source, first, &mut kernel, &mut chosen, &mut taken)?;
-    let (kept, gone) = (pulled.kept, pulled.gone);
+    let Pulled { chosen, gone } = pull(source, first, &mut kernel, &mut taken)?;
     let drives = settle(
         source,
         &kernel,
-        &chosen[0..kept],
-        &taken[0..gone],
+        chosen.as_slice(),
+        &taken[..gone],
         first,
         colours,
     )?;

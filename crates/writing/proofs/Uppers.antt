@@ -1,8 +1,7 @@
 -- The edges of a row, one neighbour at a time and all at once.
-use Rattle.std.proofs.Common.{◌≡◌, ℕ, zero, suc, ◌+◌, ◌-◌, ◌<◌, ◌≤◌, Bool, true, false, cond, ◌&&◌, ltb, List, [], ◌∷◌, ◌++◌, map, length, get_or, take, drop, decimal, sym, refl, ap, ◌∙◌, inl, inr, add-one, arith}
-use Rattle.fields.specs.Rows.{tabbed, numbers_line}
+use Rattle.std.proofs.Common.{◌≡◌, ℕ, zero, suc, ◌+◌, ◌<◌, ◌≤◌, Bool, true, false, cond, ◌&&◌, ltb, List, [], ◌∷◌, ◌++◌, map, length, get_or, take, Some, None, sym, refl, ap, ◌∙◌, subst, inl, inr, add-one, arith}
 use Rattle.std.specs.List.{flat_map}
-use Rattle.std.proofs.lemmas.List.{append_assoc, append-nil, flat_map_more, take_more, take_all, length-take-le, length-drop, get_or-take, get_or-drop, map-append, same_lists, get_or_default}
+use Rattle.std.proofs.lemmas.List.{append_assoc, append-nil, flat_map_more, take_more, take_all, map-append}
 use Rattle.std.proofs.lemmas.Bool.{cases_Bool, lt-ltb, le-ltb}
 use Rattle.finite.specs.Finite.{members}
 use Rattle.finite.proofs.Members.{length_members, members_at}
@@ -10,8 +9,7 @@ use Rattle.finite.proofs.Rising.{nth-get_or}
 use Rattle.graph.specs.declared.edge.Edge.{Edge}
 use Rattle.graph.specs.Graph.{Graph, clash, degree}
 use Rattle.graph.specs.Edges.{edge, edges_at, edges_below, edge_list}
-use Rattle.rows.specs.Rows.{Sound, listed, rows}
-use Rattle.rows.proofs.Lawful.{row_stands, row_degree, row_ranked}
+use Rattle.graph.specs.Neighbours.{Steps}
 use Rattle.grammar.specs.Sheet.{row, written, edge_row}
 use Rattle.writing.specs.Upper.{upper}
 
@@ -58,29 +56,6 @@ upper_members a p (suc n) =
         neither true = refl
         neither false = refl
 
--- row c of sound lists has the neighbours of c
-pub row_members : (os ns : List ℕ) → Sound os ns → (c : ℕ) → c < rows os → take (get_or os (c + 1) 0 - get_or os c 0) (drop (get_or os c 0) ns) ≡ members (clash (listed os ns) c) (rows os)
-unfolding degree
-row_members os ns w c l =
-    let f = get_or os c 0 in
-    let t = get_or os (c + 1) 0 in
-    let st = row_stands os (length ns) w.offsets c l in
-    let d = row_degree os ns w c l in
-    let m = length_members (clash (listed os ns) c) (rows os) in
-    let dr = length-drop f ns in
-    let ln : length (take (t - f) (drop f ns)) ≡ t - f = length-take-le (t - f) (drop f ns) (omega arith) in
-    same_lists _ _ (ln ∙ d ∙ sym m) (λ k d' h. get_or-take (t - f) (drop f ns) k d' (omega arith) ∙ get_or-drop f ns k d' ∙ at k d' (omega arith) (omega arith))
-  where
-    at : (k d : ℕ) → k < get_or os (c + 1) 0 - get_or os c 0 → get_or os c 0 + k < length ns → get_or ns (get_or os c 0 + k) d ≡ get_or (members (clash (listed os ns) c) (rows os)) k d
-    at k d h j =
-        let b = get_or ns (get_or os c 0 + k) 0 in
-        let r = row_ranked os ns w c k b l h refl in
-        let q = members_at (clash (listed os ns) c) (rows os) b k r.within r.joined r.rank in
-        let g = nth-get_or (members (clash (listed os ns) c) (rows os)) k b q in
-        let m = length_members (clash (listed os ns) c) (rows os) in
-        let e = row_degree os ns w c l in
-        get_or_default ns (get_or os c 0 + k) d 0 j ∙ sym g ∙ get_or_default (members (clash (listed os ns) c) (rows os)) k 0 d (omega arith)
-
 pub joined_append : (es fs : List Edge) → flat_map edge_row (es ++ fs) ≡ flat_map edge_row es ++ flat_map edge_row fs
 joined_append [] fs = refl
 joined_append (e ∷ es) fs = ap (λ x. edge_row e ++ x) (joined_append es fs) ∙ sym (append_assoc (edge_row e) (flat_map edge_row es) (flat_map edge_row fs))
@@ -98,10 +73,54 @@ upper_skip a out now new ns i l h e f =
 pub upper_all : (a : ℕ) (out now : List ℕ) (ns : List ℕ) (i : ℕ) → length ns ≤ i → now ≡ out ++ flat_map edge_row (upper a (take i ns)) → now ≡ out ++ flat_map edge_row (upper a ns)
 upper_all a out now ns i l e = e ∙ ap (λ xs. out ++ flat_map edge_row (upper a xs)) (take_all i ns l)
 
--- what is written of the row of a vertex
-pub row_written : (os ns : List ℕ) → Sound os ns → (a : ℕ) → a < rows os → (part out new : List ℕ) → part ≡ take (get_or os (a + 1) 0 - get_or os a 0) (drop (get_or os a 0) ns) → new ≡ out ++ flat_map edge_row (upper a part) → new ≡ out ++ flat_map edge_row (edges_at (listed os ns) a)
-row_written os ns w a l part out new p e =
-    e ∙ ap (λ es. out ++ flat_map edge_row es) (ap (upper a) (p ∙ row_members os ns w a l) ∙ upper_members a (clash (listed os ns) a) (rows os))
+-- of the row of a vertex, the first i neighbours are written, as an iterator over them stands
+pub record Written (g : Graph) (a : ℕ) (start out : List ℕ) (h : Graph) (v i : ℕ) : Type 0 where
+  pub graph : h ≡ g
+  pub vertex : v ≡ a
+  pub text : out ≡ start ++ flat_map edge_row (upper a (take i (members (clash g a) g.size)))
+
+pub row_none : (g : Graph) (a : ℕ) (start : List ℕ) (h : Graph) (v i : ℕ) → h ≡ g → v ≡ a → i ≡ 0 → Written g a start start h v i
+unfolding upper
+row_none g a start h v i e f z =
+    record { graph = e; vertex = f; text = sym (ap (λ (k : ℕ). start ++ flat_map edge_row (upper a (take k (members (clash g a) g.size)))) z ∙ append-nil start) }
+
+-- the next neighbour
+here : (g : Graph) (a b i : ℕ) → Steps g a i (Some b) (i + 1) → (i < length (members (clash g a) g.size)) × (get_or (members (clash g a) g.size) i 0 ≡ b)
+unfolding degree
+here g a b i s = (omega (arith, s.3, length_members (clash g a) g.size), nth-get_or _ i b (members_at (clash g a) g.size b i s.0 s.1 s.2))
+
+stepped : (g : Graph) (a b : ℕ) (h : Graph) (v i j : ℕ) → h ≡ g → v ≡ a → Steps h v i (Some b) j → Steps g a i (Some b) (i + 1)
+stepped g a b h v i j e f s =
+    let t = subst (λ x. Steps g x i (Some b) j) f (subst (λ x. Steps x v i (Some b) j) e s) in
+    (t.0, t.1, t.2, t.3, refl)
+
+pub row_more : (g : Graph) (a b : ℕ) (start out new : List ℕ) (h h' : Graph) (v v' i j : ℕ) → Written g a start out h v i → Steps h v i (Some b) j → h' ≡ h → v' ≡ v → a < b → new ≡ out ++ row 112 a b → Written g a start new h' v' j
+row_more g a b start out new h h' v v' i j w s e f l n =
+    let ns = members (clash g a) g.size in
+    let k = here g a b i (stepped g a b h v i j w.graph w.vertex s) in
+    let z : j ≡ i + 1 = s.4 in
+    record {
+      graph = e ∙ w.graph;
+      vertex = f ∙ w.vertex;
+      text = upper_more a start out new ns i k.0 (omega (arith, k.1)) w.text (n ∙ ap (λ (x : ℕ). out ++ row 112 a x) (sym k.1)) ∙ ap (λ (x : ℕ). start ++ flat_map edge_row (upper a (take x ns))) (sym z);
+    }
+
+pub row_skip : (g : Graph) (a b : ℕ) (start out : List ℕ) (h h' : Graph) (v v' i j : ℕ) → Written g a start out h v i → Steps h v i (Some b) j → h' ≡ h → v' ≡ v → b ≤ a → Written g a start out h' v' j
+row_skip g a b start out h h' v v' i j w s e f l =
+    let ns = members (clash g a) g.size in
+    let k = here g a b i (stepped g a b h v i j w.graph w.vertex s) in
+    let z : j ≡ i + 1 = s.4 in
+    record {
+      graph = e ∙ w.graph;
+      vertex = f ∙ w.vertex;
+      text = upper_skip a start out out ns i k.0 (omega (arith, k.1)) w.text refl ∙ ap (λ (x : ℕ). start ++ flat_map edge_row (upper a (take x ns))) (sym z);
+    }
+
+pub row_all : (g : Graph) (a : ℕ) (start out : List ℕ) (h : Graph) (v i j : ℕ) → Written g a start out h v i → Steps h v i None j → out ≡ start ++ flat_map edge_row (edges_at g a)
+unfolding degree
+row_all g a start out h v i j w s =
+    let t = subst (λ x. Steps g x i None j) w.vertex (subst (λ x. Steps x v i None j) w.graph s) in
+    upper_all a start out (members (clash g a) g.size) i (omega (arith, t.0, length_members (clash g a) g.size)) w.text ∙ ap (λ es. start ++ flat_map edge_row es) (upper_members a (clash g a) g.size)
 
 pub below_none : (g : Graph) (front : List ℕ) → front ≡ front ++ flat_map edge_row (edges_below g 0)
 unfolding edges_below
@@ -114,12 +133,9 @@ below_more g front now new a e f =
     ∙ ap (λ x. front ++ x) (sym (joined_append (edges_below g a) (edges_at g a))) ∙ ap (λ (i : ℕ). front ++ flat_map edge_row (edges_below g i)) (sym (add-one a))
 
 -- the whole sheet
-pub all_written : (n m : ℕ) (es : List Edge) (out x1 x2 : List ℕ) → m ≡ length es → out ≡ row 115 n m ++ flat_map edge_row es → x1 ≡ out ++ 101 ∷ [] → x2 ≡ x1 ++ 10 ∷ [] → x2 ≡ written n es
-all_written n m es out x1 x2 k e a b =
-    b ∙ ap (λ x. x ++ 10 ∷ []) (a ∙ ap (λ x. x ++ 101 ∷ []) (e ∙ ap (λ (i : ℕ). row 115 n i ++ flat_map edge_row es) k)) ∙ simp append_assoc
-
-pub line_row : (was out : List ℕ) (c a b : ℕ) → out ≡ was ++ numbers_line c (a ∷ b ∷ []) → out ≡ was ++ row c a b
-line_row was out c a b e = e ∙ ap (λ x. was ++ (c ∷ 9 ∷ x)) (append_assoc (decimal a) (tabbed b ++ []) (10 ∷ []) ∙ ap (λ y. decimal a ++ (y ++ 10 ∷ [])) (append-nil (tabbed b)))
+pub all_written : (n m : ℕ) (es : List Edge) (out new : List ℕ) → m ≡ length es → out ≡ row 115 n m ++ flat_map edge_row es → new ≡ out ++ 101 ∷ 10 ∷ [] → new ≡ written n es
+all_written n m es out new k e a =
+    a ∙ ap (λ x. x ++ 101 ∷ 10 ∷ []) (e ∙ ap (λ (i : ℕ). row 115 n i ++ flat_map edge_row es) k) ∙ simp append_assoc
 
 -- the size line and all rows
 pub all_rows : (g : Graph) (a n m : ℕ) (none start out : List ℕ) → none ≡ [] → start ≡ none ++ row 115 n m → out ≡ start ++ flat_map edge_row (edges_below g a) → a ≡ g.size → out ≡ row 115 n m ++ flat_map edge_row (edge_list g)

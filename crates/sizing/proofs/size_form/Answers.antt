@@ -1,4 +1,4 @@
-use Rattle.std.proofs.Common.{◌≡◌, ℕ, ◌-◌, ◌≤◌, length, take, is_ok, vec_items, sym, refl, ap, ◌∙◌, subst, inl, arith}
+use Rattle.std.proofs.Common.{◌≡◌, ℕ, ◌-◌, ◌≤◌, take, is_ok, vec_items, sym, refl, ap, ◌∙◌, subst, inl, arith}
 use Rattle.std.proofs.lemmas.List.{length-take-le}
 use Rattle.std.proofs.lemmas.Result.{err_from_is_err_and}
 use Rattle.std.proofs.lemmas.Bool.{false≢true}
@@ -49,19 +49,12 @@ slice_bounds-write_sizing-end-2 c =
     let small = (sound_of f.sound).small in
     let z = c.size-n.ensures in omega arith
 
-pub write_sizing-requires : goal.write_sizing-requires
-write_sizing-requires c =
-    let h = few (goal.at.write_sizing-requires c).In_ok-count in
-    let e = front_is c.climb_all.new.block c.in_ok-count.count in
-    let l = length-take-le c.in_ok-count.count c.climb_all.new.block (omega arith) in
-    let k = ap length e in omega arith
-
-pub returns-in-Ok : goal.returns-in-Ok
-returns-in-Ok c =
+pub returns : goal.returns
+returns c =
     let f = c.args.form.now in
     let n = c.size-n.result in
     let small = (sound_of f.sound).small in
     let z = c.size-n.ensures in
     let p = c.in_ok-planned.ensures in
     let e : n - 0 ≡ n = omega arith in
-    form_sized (vec_items f.offsets) (vec_items f.neighbours) _ _ _ c.plan.new.colours c.climb_all.new.block _ _ _ _ _ _ n c.in_ok-count.count z p.0 p.1 (found (goal.at.returns-in-Ok c).In_ok-count) (front_is c.climb_all.new.block c.in_ok-count.count) (ap (λ (i : ℕ). take i c.plan.new.colours) e) (length-take-le (n - 0) c.plan.new.colours (omega arith) ∙ e) c.in-Ok.ensures
+    form_sized (vec_items f.offsets) (vec_items f.neighbours) _ _ _ c.plan.new.colours c.climb_all.new.block _ _ _ _ _ _ n c.in_ok-count.count z p.0 p.1 (found (goal.at.returns c).In_ok-count) (front_is c.climb_all.new.block c.in_ok-count.count) (ap (λ (i : ℕ). take i c.plan.new.colours) e) (length-take-le (n - 0) c.plan.new.colours (omega arith) ∙ e) c.in_ok-text.ensures

@@ -44,12 +44,7 @@ impl Laying {
     fn all_laid(&self) -> bool
         ensures { MatchBool result ((c : ℕ) → c < self.now.n → slice_index self.now.left c ≡ 0) ((c : ℕ) × (c < self.now.n) × (0 < slice_index self.now.left c)) }
     {
-        for c in 0..self.n {
-            if self.left[c] != 0 {
-                return false;
-            }
-        }
-        true
+        self.left[..self.n].iter().all(|left| *left == 0)
     }
 
     // Where each row begins and the last one ends, once every row is full.
@@ -59,9 +54,7 @@ impl Laying {
         ensures places { (c : ℕ) → c < self.now.n → slice_index result (c + 1) ≡ slice_index self.now.next c }
     {
         let mut table = [0u16; 1025];
-        for c in 0..self.n {
-            table[c + 1] = self.next[c];
-        }
+        table[1..].copy_from_slice(&self.next);
         table
     }
 
@@ -78,8 +71,8 @@ impl Laying {
             return Err(Refusal::Miscounted);
         }
         let table = self.offsets();
-        judge(&table[0..count], &neighbours[0..used])?;
-        offsets[0..count].copy_from_slice(&table[0..count]);
+        judge(&table[..count], &neighbours[..used])?;
+        offsets[..count].copy_from_slice(&table[..count]);
         Ok(())
     }
 }

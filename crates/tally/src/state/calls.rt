@@ -81,9 +81,9 @@ impl Tally {
     {
         let mut next = [0u16; 1024];
         let mut sum = 0u16;
-        for c in 0..self.n {
+        for (c, length) in self.lengths[..self.n].iter().enumerate() {
             next[c] = sum;
-            sum += self.lengths[c];
+            sum += *length;
         }
         let Tally {
             n,

@@ -1,0 +1,8 @@
+use Rattle.std.proofs.Common.{vec_items, rules}
+use Rattle.std.proofs.lemmas.Result.{IfOk-weaker}
+use Rattle.trying.proofs.Lines.{prints_answer}
+use Rattle.trying.proofs.respond.Goals as goal
+
+pub returns : goal.returns
+returns c =
+    IfOk-weaker c.print_stock.result _ _ (λ v h. prints_answer vec_items _ c.args.input.now _ (λ form t r. search rules) (λ form x r. search rules) h) c.print_stock.ensures
