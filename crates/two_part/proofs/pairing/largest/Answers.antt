@@ -2,7 +2,7 @@ use Rattle.std.proofs.Common.{◌≡◌, ◌+◌, cond, length, sym, ap, ◌∙�
 use Rattle.grids.specs.Largest.{at_least, most, qualifies}
 use Rattle.grids.proofs.Largest.{most_none, largest_le}
 use Rattle.grids.proofs.Pairs.{rows_turn, rows_all}
-use Rattle.two_part.proofs.pairing.pair_up.Goals as goal
+use Rattle.two_part.proofs.pairing.largest.Goals as goal
 
 pub loop-s-init : goal.loop-s-init
 loop-s-init c =
@@ -10,7 +10,7 @@ loop-s-init c =
 
 pub loop-s-preserved : goal.loop-s-preserved
 loop-s-preserved c =
-    rows_turn c.args.us.now c.args.ws.now c.table-reached.result c.loop-s.s c.loop-s.best c.best_with.result c.max-best.result c.table-reached.ensures.places c.loop-s.invariant c.best_with.ensures c.max-best.ensures
+    rows_turn c.args.us.now c.args.ws.now c.table-reached.result.items c.loop-s.s c.loop-s.best c.best_with.result c.max-best.result c.table-reached.ensures.places c.loop-s.invariant (rw c.deref.ensures.0 at c.best_with.ensures) c.max-best.ensures
 
 pub returns : goal.returns
 returns c =
