@@ -1,7 +1,6 @@
 ghost use Rattle.searching.specs.Answers.{Answers};
 
 use crate::branching::Branching;
-use arrayvec::ArrayVec;
 use masks::{below, highest, meet, with, without};
 use pictures::Picture;
 
@@ -19,35 +18,41 @@ pub fn search<R: Branching>(rule: &R, p: &Picture, mask: u64, size: usize) -> Op
 {
     let mut best = None;
     let mut most = size;
-    let mut stack: ArrayVec<Level, 65> = ArrayVec::new();
     let spare = meet(mask, below(p.count()));
-    stack.push(Level {
+    // By hand: a vector's `pop` writes a blank level at each turn, and the search took half as many steps again.
+    let mut stack = [Level::default(); 65];
+    stack[0] = Level {
         picked: 0,
         spare,
         branch: rule.first(p, spare, size),
-    });
-    while let Some(level) = stack.pop() {
-        let top = stack.len();
+    };
+    let mut height: usize = 1;
+    while height > 0 {
+        let top = height - 1;
+        let level = stack[top];
         let branch = rule.again(p, level.spare, level.branch, most - top);
-        if branch != 0 {
+        if branch == 0 {
+            height = top;
+        } else {
             let v = highest(branch);
             let rest = without(level.spare, v);
             let next = meet(rest, p.row(v));
             let chosen = with(level.picked, v);
-            if top >= most {
-                most = top + 1;
+            if height > most {
+                most = height;
                 best = Some(chosen);
             }
-            stack.push(Level {
+            stack[top] = Level {
                 spare: rest,
                 branch: without(branch, v),
                 ..level
-            });
-            stack.push(Level {
+            };
+            stack[height] = Level {
                 picked: chosen,
                 spare: next,
-                branch: rule.first(p, next, most - top - 1),
-            });
+                branch: rule.first(p, next, most - height),
+            };
+            height += 1;
         }
     }
     best

@@ -1,25 +1,16 @@
 -- The largest pair that qualifies, from the largest degree of each class.
-use Rattle.std.proofs.Common.{◌≡◌, ℕ, ◌+◌, ◌<◌, ◌≤◌, max, Bool, true, cond, not, ◌&&◌, eqb, leb, List, [], ◌∷◌, length, filter, map, get_or, sym, refl, ap, ◌∙◌, inl, inr, arith}
+use Rattle.std.proofs.Common.{◌≡◌, ℕ, ◌+◌, ◌<◌, ◌≤◌, max, Bool, true, cond, not, ◌&&◌, eqb, leb, List, length, map, get_or, sym, refl, ap, ◌∙◌, inl, inr, arith}
 use Rattle.std.proofs.lemmas.List.{length-map, get_or-map}
 use Rattle.std.proofs.lemmas.Bool.{cases_Bool, cases_lt, eq-eqb, ne_eqb, le-leb, lt-leb, and_from, and_left, and_right, cond-true, cond-false}
 use Rattle.finite.specs.Finite.{any, count}
 use Rattle.finite.specs.Masks.{bit}
-use Rattle.finite.proofs.Counts.{count_same, count_le, count_zero}
-use Rattle.finite.proofs.Splits.{count_front}
+use Rattle.finite.proofs.Counts.{count_same, count_le}
 use Rattle.finite.proofs.Masks.{bit_none}
 use Rattle.grids.specs.Largest.{most, reaches, reaching, qualifies, largest, at_least, top}
 use Rattle.grids.proofs.Largest.{most_le, most_more, most_same, most_gap, most_without, top_reaches}
 
 pub at_least_le : (ts : List ℕ) (s : ℕ) → at_least ts s ≤ length ts
 at_least_le ts s = count_le (λ k. leb s (get_or ts k 0)) (length ts)
-
--- the numbers of a list that are s or more, taken out of it
-pub at_least_filter : (ts : List ℕ) (s : ℕ) → length (filter (leb s) ts) ≡ at_least ts s
-at_least_filter [] s = sym (count_zero (λ k. leb s (get_or [] k 0)))
-at_least_filter (t ∷ ts) s =
-    let ih = at_least_filter ts s in
-    let f = count_front (λ k. leb s (get_or (t ∷ ts) k 0)) (length ts) in
-    elim (cases_Bool (leb s t)) [ inl y ↦ (let g = rw y at f in rw y (omega arith)) | inr y ↦ (let g = rw y at f in rw y (omega arith)) ]
 
 -- a class without members
 pub top_none : (degree : ℕ → ℕ) (class : ℕ) → class ≡ 0 → top degree class ≡ 0

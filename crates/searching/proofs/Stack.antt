@@ -59,6 +59,10 @@ module _ (p : Picture) (m least : ℕ) (spare branch picked : ℕ → ℕ) (top 
   here : Level p m o h top
   here = rw (eo, eh) at (st.level top (omega arith))
 
+  -- there are at most 65 levels
+  pub tall : top < 65
+  tall = omega (arith, here.size, count_le (bit h) 64)
+
   -- nothing is left to branch on
   pub pop : (spare' branch' picked' : ℕ → ℕ) → ((k : ℕ) → k < top → spare' k ≡ spare k) → ((k : ℕ) → k < top → branch' k ≡ branch k) → ((k : ℕ) → k < top → picked' k ≡ picked k) → (b : ℕ) → b ≡ 0 → Cut p o b (most - top) → State p m least spare' branch' picked' top best most
   pop spare' branch' picked' so bo ho b e c = record {

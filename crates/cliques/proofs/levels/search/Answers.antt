@@ -1,101 +1,92 @@
-use Rattle.std.proofs.Common.{◌≡◌, ℕ, ◌+◌, ◌-◌, ◌<◌, ◌&&◌, ltb, length, get_or, sym, refl, ap, ◌∙◌, subst, inl, inr, arith}
+use Rattle.std.proofs.Common.{◌≡◌, ℕ, ◌+◌, ◌-◌, ◌<◌, ◌&&◌, ltb, get_or, set, sym, refl, rules, ap, ◌∙◌, subst, inl, inr, arith}
+use Rattle.std.proofs.lemmas.List.{length-set}
 use Rattle.finite.specs.Masks.{bit}
 use Rattle.searching.specs.Cuts.{Cut}
-use Rattle.searching.proofs.Stack.{State, start, pop, room_next, push, ended}
-use Rattle.searching.proofs.Weights.{load, load_popped, load_pushed}
+use Rattle.searching.proofs.Stack.{State, start, tall, pop, room_next, push, ended}
+use Rattle.searching.proofs.Weights.{load_popped, load_pushed}
 use Rattle.cliques.specs.declared.levels.Level.{Level}
-use Rattle.cliques.proofs.Stacked.{blank, spare_of, branch_of, picked_of, top_is, low_is, none_left, two}
+use Rattle.cliques.proofs.Stacked.{blank, spare_of, branch_of, picked_of, two}
 use Rattle.cliques.proofs.levels.search.Given as given
 use Rattle.cliques.proofs.levels.search.Goals as goal
-use Rattle.cliques.proofs.levels.search.Goals.{After-len-top, After-without, then-top-most, else-top-most}
+use Rattle.cliques.proofs.levels.search.Goals.{In-loop-height, then-height-most, else-height-most}
 
-pub loop-level-init : goal.loop-level-init
-loop-level-init g c =
-    rw (c.push.ensures.items, c.new-stack.ensures)
-    (start _ _ _ c.meet-spare.result c.first.result
-    (λ j. c.meet-spare.ensures.members j ∙ ap (λ b. bit c.args.mask j && b) (c.below.ensures j ∙ ap (λ (x : ℕ). ltb j x) c.count.ensures.value))
-    c.first.ensures.within c.first.ensures.cut _ _ _ refl refl refl)
+pub loop-height-init : goal.loop-height-init
+loop-height-init g c = (
+  refl,
+  start _ _ _ c.meet-spare.result c.first.result
+      (λ j. c.meet-spare.ensures.members j ∙ ap (λ b. bit c.args.mask j && b) (c.below.ensures j ∙ ap (λ (x : ℕ). ltb j x) c.count.ensures.value))
+      c.first.ensures.within c.first.ensures.cut _ _ _ refl refl refl,
+)
 
--- the level that is taken was the top
-height : (g : given.Over) (c : goal.After-len-top g) → length c.loop-level.stack.items ≡ c.len-top.result + 1
-height g c = omega (arith, c.in-Some.ensures.len, c.len-top.ensures.value)
-
-was : (g : given.Over) (c : goal.After-len-top g) → State c.args.p.now c.args.mask c.args.size (spare_of c.loop-level.stack.items) (branch_of c.loop-level.stack.items) (picked_of c.loop-level.stack.items) (c.len-top.result + 1) c.loop-level.best c.loop-level.most
+-- the state, with the level at the top
+was : (g : given.Over) (c : goal.In-loop-height g) → State c.args.p.now c.args.mask c.args.size (spare_of c.loop-height.stack) (branch_of c.loop-height.stack) (picked_of c.loop-height.stack) (c.loop-height.height - 1 + 1) c.loop-height.best c.loop-height.most
 was g c =
-    let xs = c.loop-level.stack.items in
-    subst (λ (n : ℕ). State c.args.p.now c.args.mask c.args.size (spare_of xs) (branch_of xs) (picked_of xs) n c.loop-level.best c.loop-level.most) (height g c) c.loop-level.invariant
+    let e : c.loop-height.height ≡ c.loop-height.height - 1 + 1 = omega (arith, c.loop-height-test.true) in
+    subst (λ (n : ℕ). State c.args.p.now c.args.mask c.args.size (spare_of c.loop-height.stack) (branch_of c.loop-height.stack) (picked_of c.loop-height.stack) n c.loop-height.best c.loop-height.most) e c.loop-height.invariant.1
 
-top : (g : given.Over) (c : goal.After-len-top g) → get_or c.loop-level.stack.items c.len-top.result blank ≡ c.in-Some.level
-top g c =
-    top_is c.loop-level.stack.items c.pop.new.self.items c.pop.result c.in-Some.level c.pop.ensures.rest c.pop.ensures.value c.in-Some.is c.len-top.result (height g c) (sym c.len-top.ensures.value)
+few : (g : given.Over) (c : goal.In-loop-height g) → c.loop-height.height - 1 < 65
+few g c = tall _ _ _ _ _ _ _ _ _ (was g c) _ _ refl refl
 
-low : (g : given.Over) (c : goal.After-len-top g) (k : ℕ) → k < c.len-top.result → get_or c.pop.new.self.items k blank ≡ get_or c.loop-level.stack.items k blank
-low g c =
-    low_is c.loop-level.stack.items c.pop.new.self.items c.pop.result c.in-Some.level c.pop.ensures.rest c.pop.ensures.value c.in-Some.is c.len-top.result (height g c) (sym c.len-top.ensures.value)
+pub bounds-stack-top : goal.bounds-stack-top
+bounds-stack-top g c = few g c
 
-pub again-branch-requires-clause-cut : goal.again-branch-requires-clause-cut
-again-branch-requires-clause-cut g c =
-    subst (λ (l : Level). Cut c.args.p.now l.spare l.branch (c.loop-level.most - c.len-top.result)) (top g c) ((was g c).cut c.len-top.result (omega arith))
+pub offset_bounds-stack-top : goal.offset_bounds-stack-top
+offset_bounds-stack-top g c = let h = few g c in search rules
 
-room : (g : given.Over) (c : goal.After-without g) → c.len-top.result + 1 < 65
+pub loop-height-preserved-then-branch-eq0 : goal.loop-height-preserved-then-branch-eq0
+loop-height-preserved-then-branch-eq0 g c =
+    let a = (goal.at.loop-height-preserved-then-branch-eq0 g c).In-loop-height in (
+      c.loop-height.invariant.0,
+      pop _ _ _ _ _ _ _ _ _ (was g a) _ _ refl refl (spare_of c.loop-height.stack) (branch_of c.loop-height.stack) (picked_of c.loop-height.stack) (λ k h. refl) (λ k h. refl) (λ k h. refl)
+          c.again-branch.result c.if-branch-eq0.true c.again-branch.ensures.cut,
+    )
+
+pub loop-height-smaller-then-branch-eq0 : goal.loop-height-smaller-then-branch-eq0
+loop-height-smaller-then-branch-eq0 g c = load_popped _ _ _ _ (omega arith) (λ k h. refl)
+
+room : (g : given.Over) (c : goal.After-first-else-branch-eq0 g) → c.loop-height.height < 65
 room g c =
-    let a = (goal.at.push-requires-then-branch-ne0 g c).After-len-top in
-    room_next _ _ _ _ _ _ _ _ _ (was g a) _ _ (ap (λ (l : Level). l.spare) (top g a)) (ap (λ (l : Level). l.picked) (top g a))
+    let a = (goal.at.bounds-stack-height g c).In-loop-height in
+    let r = room_next _ _ _ _ _ _ _ _ _ (was g a) _ _ refl refl
     c.again-branch.result c.highest-v.result c.without-rest.result c.without.result c.meet-next.result c.with-chosen.result
     c.highest-v.ensures.place c.highest-v.ensures.member c.again-branch.ensures.within c.again-branch.ensures.cut c.without-rest.ensures.members c.without.ensures.members c.with-chosen.ensures
-    (λ j. c.meet-next.ensures.members j ∙ ap (λ (x : ℕ). bit c.without-rest.result j && bit x j) c.row.ensures)
+    (λ j. c.meet-next.ensures.members j ∙ ap (λ (x : ℕ). bit c.without-rest.result j && bit x j) c.row.ensures) in
+    omega arith
 
-pub push-requires-then-branch-ne0 : goal.push-requires-then-branch-ne0
-push-requires-then-branch-ne0 g c = (omega arith, let l : length c.pop.new.self.items < 65 = omega (arith, room g c, c.len-top.ensures.value) in l)
+pub bounds-stack-height : goal.bounds-stack-height
+bounds-stack-height g c = room g c
 
-pub push-requires-then-branch-ne0-2 : goal.push-requires-then-branch-ne0-2
-push-requires-then-branch-ne0-2 g c =
-    let b = (goal.at.push-requires-then-branch-ne0-2 g c).After-without in
-    (omega arith, let l : length c.push-then-branch-ne0.new.self.items < 65 = omega (arith, room g b, c.len-top.ensures.value, c.push-then-branch-ne0.ensures.len) in l)
+pub loop-height-preserved : goal.loop-height-preserved
+loop-height-preserved g c =
+    let a = (goal.at.loop-height-preserved g c).In-loop-height in
+    let xs = c.loop-height.stack in
+    let n = c.loop-height.height in
+    let e : n ≡ n - 1 + 1 = omega arith in
+    let here : Level = record { picked = (get_or xs (n - 1) blank).picked; spare = c.without-rest.result; branch = c.without.result } in
+    let new : Level = record { picked = c.with-chosen.result; spare = c.meet-next.result; branch = c.first-else-branch-eq0.result } in
+    let zs = set (set xs (n - 1) here) n new in
+    let pushed = two xs (n - 1) n here new e (omega (arith, room g c, c.loop-height.invariant.0)) in (
+      length-set (set xs (n - 1) here) n new ∙ length-set xs (n - 1) here ∙ c.loop-height.invariant.0,
+      subst (λ (h : ℕ). State c.args.p.now c.args.mask c.args.size (spare_of zs) (branch_of zs) (picked_of zs) (h + 1) c.if-height-most.best c.if-height-most.most) (sym e)
+          (push _ _ _ _ _ _ (n - 1) _ _ (was g a) _ _ refl refl
+          c.again-branch.result c.highest-v.result c.without-rest.result c.without.result c.meet-next.result c.with-chosen.result
+          c.highest-v.ensures.place c.highest-v.ensures.member c.again-branch.ensures.within c.again-branch.ensures.cut c.without-rest.ensures.members c.without.ensures.members c.with-chosen.ensures
+          (λ j. c.meet-next.ensures.members j ∙ ap (λ (x : ℕ). bit c.without-rest.result j && bit x j) c.row.ensures)
+          c.first-else-branch-eq0.result (spare_of zs) (branch_of zs) (picked_of zs) (pushed (λ l. l.spare)) (pushed (λ l. l.branch)) (pushed (λ l. l.picked)) _ _
+          (elim c.if-height-most.branch [ then-height-most w ↦ inl (omega (arith, w.if-height-most.true), w.most-is ∙ e, w.best-is) | else-height-most w ↦ inr (omega (arith, w.if-height-most.false), w.most-is, w.best-is) ])
+          c.first-else-branch-eq0.ensures.within
+          (subst (λ (h : ℕ). Cut c.args.p.now c.meet-next.result c.first-else-branch-eq0.result (c.if-height-most.most - h)) e c.first-else-branch-eq0.ensures.cut)),
+    )
 
-more : (g : given.Over) (c : goal.After-push-then-branch-ne0-2 g) → length c.push-then-branch-ne0-2.new.self.items ≡ c.len-top.result + 1 + 1
-more g c = omega (arith, c.push-then-branch-ne0-2.ensures.len, c.push-then-branch-ne0.ensures.len, c.len-top.ensures.value)
-
-pub loop-level-preserved-then-branch-ne0 : goal.loop-level-preserved-then-branch-ne0
-loop-level-preserved-then-branch-ne0 g c =
-    let a = (goal.at.loop-level-preserved-then-branch-ne0 g c).After-len-top in
-    let xs = c.loop-level.stack.items in
-    let zs = c.push-then-branch-ne0-2.new.self.items in
-    let pushed = two xs c.pop.new.self.items c.pop.result c.in-Some.level c.pop.ensures.rest c.pop.ensures.value c.in-Some.is c.len-top.result (height g a) (sym c.len-top.ensures.value) _ _ c.push-then-branch-ne0.new.self.items zs c.push-then-branch-ne0.ensures.items c.push-then-branch-ne0-2.ensures.items in
-    subst (λ (n : ℕ). State c.args.p.now c.args.mask c.args.size (spare_of zs) (branch_of zs) (picked_of zs) n c.if-top-most.best c.if-top-most.most) (sym (more g c))
-    (push _ _ _ (spare_of xs) (branch_of xs) (picked_of xs) c.len-top.result _ _ (was g a) _ _ (ap (λ (l : Level). l.spare) (top g a)) (ap (λ (l : Level). l.picked) (top g a))
-    c.again-branch.result c.highest-v.result c.without-rest.result c.without.result c.meet-next.result c.with-chosen.result
-    c.highest-v.ensures.place c.highest-v.ensures.member c.again-branch.ensures.within c.again-branch.ensures.cut c.without-rest.ensures.members c.without.ensures.members c.with-chosen.ensures
-    (λ j. c.meet-next.ensures.members j ∙ ap (λ (x : ℕ). bit c.without-rest.result j && bit x j) c.row.ensures)
-    c.first-then-branch-ne0.result (spare_of zs) (branch_of zs) (picked_of zs) (pushed (λ l. l.spare)) (pushed (λ l. l.branch)) (pushed (λ l. l.picked)) _ _
-    (elim c.if-top-most.branch [ then-top-most w ↦ inl (omega (arith, w.if-top-most.true), w.most-is, w.best-is) | else-top-most w ↦ inr (omega (arith, w.if-top-most.false), w.most-is, w.best-is) ])
-    c.first-then-branch-ne0.ensures.within
-    (let e : c.if-top-most.most - c.len-top.result - 1 ≡ c.if-top-most.most - (c.len-top.result + 1) = omega arith in subst (Cut c.args.p.now c.meet-next.result c.first-then-branch-ne0.result) e c.first-then-branch-ne0.ensures.cut))
-
-pub loop-level-smaller-then-branch-ne0 : goal.loop-level-smaller-then-branch-ne0
-loop-level-smaller-then-branch-ne0 g c =
-    let a = (goal.at.loop-level-smaller-then-branch-ne0 g c).After-len-top in
-    let xs = c.loop-level.stack.items in
-    let pushed = two xs c.pop.new.self.items c.pop.result c.in-Some.level c.pop.ensures.rest c.pop.ensures.value c.in-Some.is c.len-top.result (height g a) (sym c.len-top.ensures.value) _ _ c.push-then-branch-ne0.new.self.items c.push-then-branch-ne0-2.new.self.items c.push-then-branch-ne0.ensures.items c.push-then-branch-ne0-2.ensures.items (λ l. l.spare) in
-    let at = ap (λ (l : Level). l.spare) (top g a) in
-    load_pushed (spare_of xs) (spare_of c.push-then-branch-ne0-2.new.self.items) _ _ c.len-top.result _ _ (height g a) (more g c) pushed.low pushed.here pushed.next (omega (arith, at, c.without-rest.ensures.less)) c.meet-next.ensures.bound
-
-pub loop-level-preserved : goal.loop-level-preserved
-loop-level-preserved g c =
-    let a = (goal.at.loop-level-preserved g c).After-len-top in
-    let xs = c.loop-level.stack.items in
-    let ys = c.pop.new.self.items in
-    subst (λ (n : ℕ). State c.args.p.now c.args.mask c.args.size (spare_of ys) (branch_of ys) (picked_of ys) n c.loop-level.best c.loop-level.most) c.len-top.ensures.value
-    (pop _ _ _ (spare_of xs) (branch_of xs) (picked_of xs) c.len-top.result _ _ (was g a) _ _ (ap (λ (l : Level). l.spare) (top g a)) (ap (λ (l : Level). l.picked) (top g a)) (spare_of ys) (branch_of ys) (picked_of ys)
-    (λ k h. ap (λ (l : Level). l.spare) (low g a k h)) (λ k h. ap (λ (l : Level). l.branch) (low g a k h)) (λ k h. ap (λ (l : Level). l.picked) (low g a k h))
-    c.again-branch.result c.if-branch-ne0.false c.again-branch.ensures.cut)
-
-pub loop-level-smaller : goal.loop-level-smaller
-loop-level-smaller g c =
-    let a = (goal.at.loop-level-smaller g c).After-len-top in
-    subst (λ (n : ℕ). load (spare_of c.pop.new.self.items) n < load (spare_of c.loop-level.stack.items) (length c.loop-level.stack.items)) c.len-top.ensures.value
-    (load_popped (spare_of c.loop-level.stack.items) (spare_of c.pop.new.self.items) _ _ (height g a) (λ k h. ap (λ (l : Level). l.spare) (low g a k h)))
+pub loop-height-smaller : goal.loop-height-smaller
+loop-height-smaller g c =
+    let xs = c.loop-height.stack in
+    let n = c.loop-height.height in
+    let e : n ≡ n - 1 + 1 = omega arith in
+    let here : Level = record { picked = (get_or xs (n - 1) blank).picked; spare = c.without-rest.result; branch = c.without.result } in
+    let new : Level = record { picked = c.with-chosen.result; spare = c.meet-next.result; branch = c.first-else-branch-eq0.result } in
+    let pushed = two xs (n - 1) n here new e (omega (arith, room g c, c.loop-height.invariant.0)) (λ l. l.spare) in
+    load_pushed _ _ n (n + 1) (n - 1) _ _ e (omega arith) pushed.low pushed.here pushed.next c.without-rest.ensures.less c.meet-next.ensures.bound
 
 pub returns : goal.returns
-returns g c =
-    ended _ _ _ _ _ _ _ _ _ (none_left c.loop-level.stack.items c.pop.result c.in_default.is (λ l. c.pop.ensures.variant.1 l)) c.loop-level.invariant
+returns g c = ended _ _ _ _ _ _ _ _ _ (omega arith) c.loop-height.invariant.1
