@@ -1,56 +1,37 @@
 // A largest clique of a picture, by a search that branches only on what classes of places that are not joined leave.
 #![tactic(auto)]
 
-ghost use Rattle.std.specs.Prelude.{◌≡◌, ◌<◌, true, false, ◌&&◌, nat_lt};
-ghost use Rattle.finite.specs.Finite.{count};
 ghost use Rattle.finite.specs.Masks.{bit};
 ghost use Rattle.finite.specs.Supports.{Within};
-ghost use Rattle.searching.specs.Answers.{Answers, AtMost};
+ghost use Rattle.searching.specs.Answers.{Answers};
 ghost use Rattle.searching.specs.Cuts.{Class, Cut};
 
 use bounds::Bound;
-use cliques::may_pass;
-use masks::{below, highest, lowest, meet, minus, with, without};
+use cliques::{Branching, may_pass, search};
+use masks::{lowest, minus, without};
 use pictures::Picture;
 
 // A largest clique inside `mask`, if it has more than `size` members. Places beyond the picture's count are passed over.
 pub fn largest<B: Bound>(bound: &B, p: &Picture, mask: u64, size: usize) -> Option<u64>
     ensures { Answers p.now mask size result }
 {
-    let first = meet(mask, below(p.count()));
-    let mut spare = [0u64; 65];
-    let mut branch = [0u64; 65];
-    let mut picked = [0u64; 65];
-    spare[0] = first;
-    branch[0] = to_branch(bound, p, first, size);
-    let mut height: usize = 1;
-    let mut best: u64 = 0;
-    let mut most = size;
-    while height > 0 {
-        let top = height - 1;
-        let m = spare[top];
-        let b = branch[top];
-        if b != 0 {
-            let v = highest(b);
-            let rest = without(m, v);
-            let next = meet(rest, p.row(v));
-            let chosen = with(picked[top], v);
-            if height > most {
-                most = height;
-                best = chosen;
-            }
-            let left = to_branch(bound, p, next, most - height);
-            spare[top] = rest;
-            branch[top] = without(b, v);
-            spare[height] = next;
-            branch[height] = left;
-            picked[height] = chosen;
-            height += 1;
-        } else {
-            height = top;
-        }
+    search(&ByClasses { bound }, p, mask, size)
+}
+
+// The places that classes leave, found once for each mask.
+#[derive(Drop)]
+struct ByClasses<'a, B> {
+    bound: &'a B,
+}
+
+impl<'a, B: Bound> Branching for ByClasses<'a, B> {
+    fn first(&self, p: &Picture, m: u64, room: usize) -> u64 {
+        to_branch(self.bound, p, m, room)
     }
-    if most > size { Some(best) } else { None }
+
+    fn again(&self, _: &Picture, _: u64, left: u64, _: usize) -> u64 {
+        left
+    }
 }
 
 // The places of `m` to branch on: without them no clique inside it passes `room`. There are none where the bound says so.
@@ -88,6 +69,7 @@ fn but_a_class(p: &Picture, m: u64) -> u64
 {
     let mut left = m;
     let mut free = m;
+    // By hand: a turn takes more from what is free than the member that it is for.
     while free != 0 {
         let v = lowest(free);
         left = without(left, v);

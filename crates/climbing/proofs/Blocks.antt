@@ -1,11 +1,12 @@
 -- The step of a climb over plain values: the later neighbours, the block that is written, and what it stands for.
-use Rattle.std.proofs.Common.{◌≡◌, ℕ, zero, suc, ◌+◌, ◌-◌, ◌<◌, ◌≤◌, Bool, true, false, cond, ◌&&◌, eqb, ◌⊎◌, List, [], ◌∷◌, ◌++◌, length, get_or, take, drop, set, Some, None, sym, refl, ap, ◌∙◌, subst, inl, inr, add-one, arith, drop-cons}
+use Rattle.std.proofs.Common.{◌≡◌, ℕ, zero, suc, ◌+◌, ◌-◌, ◌<◌, ◌≤◌, Bool, true, false, cond, ◌&&◌, List, [], ◌∷◌, ◌++◌, length, get_or, take, drop, set, Some, None, Option, append_assoc, length-append, sym, refl, ap, ◌∙◌, subst, inl, inr, add-one, arith}
 use lib.Seq.{drop-length}
-use Rattle.std.proofs.lemmas.List.{append-nil, length_push, length-take-le, take_more_set}
-use Rattle.std.proofs.lemmas.Bool.{cases_eq, and_parts, both_ways, ne_eqb, or_right, or_from, and_left, and_right}
-use Rattle.finite.specs.Finite.{any, count, has, members}
+use Rattle.std.specs.Option.{option_or}
+use Rattle.std.proofs.lemmas.List.{append-nil, length_push, take_more_set}
+use Rattle.std.proofs.lemmas.Bool.{cases_eq, and_parts, both_ways}
+use Rattle.finite.specs.Finite.{count, has, members}
 use Rattle.finite.specs.Masks.{bit}
-use Rattle.finite.proofs.Counts.{any_none, any_more, has_none}
+use Rattle.finite.proofs.Counts.{has_none}
 use Rattle.finite.proofs.Masks.{bit_zero}
 use Rattle.finite.proofs.Members.{count_rise}
 use Rattle.graph.specs.Graph.{Graph, Lawful, held, clash}
@@ -13,40 +14,38 @@ use Rattle.graph.specs.declared.refusal.Refusal.{Refusal}
 use Rattle.graph.proofs.Graphs.{clash_right}
 use Rattle.degeneracy.specs.Order.{IsOrder, IsPeak}
 use Rattle.pictures.specs.declared.shape.Picture.{Picture}
-use Rattle.searching.specs.Answers.{AtMost, Largest}
-use Rattle.climbing.specs.Climbs.{AtMostAmong, LargestAmong, EachOnce, BlockIn, Climbs, Searched, FewLater, StepRefused, ClimbRefused, backward, later, later_list, last, near, picked, plus}
+use Rattle.searching.specs.Answers.{Answers, AtMost, Largest}
+use Rattle.climbing.specs.Climbs.{AtMostAmong, LargestAmong, EachOnce, BlockIn, Climbs, Reaches, Searched, FewLater, StepRefused, ClimbRefused, backward, later, later_list, last, near, picked, plus}
 use Rattle.climbing.proofs.Steps.{most_same, largest_same, largest_plus, largest_stays, count_plus, plus_few}
-use Rattle.climbing.proofs.Later.{Apart, backward_none, backward_yes, backward_no, backward_drop, later_has, later_apart, last_is, last_more, order_few}
+use Rattle.climbing.proofs.Later.{Apart, later_has, later_apart, last_is, last_more, order_few}
 use Rattle.climbing.proofs.Numbers.{number_empty, all_climbed}
-use Rattle.climbing.proofs.Drawn.{picked_few, picked_from, most_listed, most_drawn, largest_drawn}
+use Rattle.climbing.proofs.Drawn.{picked_few, most_listed, most_drawn, largest_drawn}
 
--- ---- the later neighbours, written from the end of the list
+-- ---- numbers taken from the end of a list
 
-pub gather_none : (t : ℕ → Bool) (p found : List ℕ) (i : ℕ) → i ≡ length p → take 0 found ≡ backward t (drop i p)
-gather_none t p found i e =
-    sym (ap (λ (k : ℕ). backward t (drop k p)) e ∙ ap (backward t) (drop-length p) ∙ backward_none t)
+backward_last : (t : ℕ → Bool) (xs : List ℕ) (c : ℕ) → backward t (xs ++ c ∷ []) ≡ cond (t c) (c ∷ []) [] ++ backward t xs
+unfolding backward
+backward_last t [] c = sym (append-nil (cond (t c) (c ∷ []) []))
+backward_last t (x ∷ xs) c =
+    ap (λ (l : List ℕ). l ++ cond (t x) (x ∷ []) []) (backward_last t xs c) ∙ append_assoc (cond (t c) (c ∷ []) []) (backward t xs) (cond (t x) (x ∷ []) [])
 
-module _ (t : ℕ → Bool) (p found : List ℕ) (n i : ℕ) (pos : 0 < i) (within : i ≤ length p) (so_far : take n found ≡ backward t (drop i p)) where
-  from_here : drop (i - 1) p ≡ get_or p (i - 1) 0 ∷ drop i p
-  from_here =
-      let e : suc (i - 1) ≡ i = omega arith in
-      drop-cons p (i - 1) 0 (omega arith) ∙ ap (λ (k : ℕ). get_or p (i - 1) 0 ∷ drop k p) e
+module _ (t : ℕ → Bool) (all found rest rest' : List ℕ) (c : ℕ) (step : rest ≡ rest' ++ c ∷ []) (so_far : backward t all ≡ found ++ backward t rest) where
+  pub gather_yes : t c ≡ true → backward t all ≡ (found ++ c ∷ []) ++ backward t rest'
+  gather_yes y =
+      so_far ∙ ap (λ (l : List ℕ). found ++ l) (ap (backward t) step ∙ backward_last t rest' c ∙ ap (λ (b : Bool). cond b (c ∷ []) [] ++ backward t rest') y) ∙ sym (append_assoc found (c ∷ []) (backward t rest'))
 
-  pub gather_yes : t (get_or p (i - 1) 0) ≡ true → n < length found → take (n + 1) (set found n (get_or p (i - 1) 0)) ≡ backward t (drop (i - 1) p)
-  gather_yes y l =
-      take_more_set found n (get_or p (i - 1) 0) l ∙ ap (λ (xs : List ℕ). xs ++ get_or p (i - 1) 0 ∷ []) so_far ∙ sym (ap (backward t) from_here ∙ backward_yes t (get_or p (i - 1) 0) (drop i p) y)
+  pub gather_no : t c ≡ false → backward t all ≡ found ++ backward t rest'
+  gather_no z =
+      so_far ∙ ap (λ (l : List ℕ). found ++ l) (ap (backward t) step ∙ backward_last t rest' c ∙ ap (λ (b : Bool). cond b (c ∷ []) [] ++ backward t rest') z)
 
-  pub gather_no : t (get_or p (i - 1) 0) ≡ false → take n found ≡ backward t (drop (i - 1) p)
-  gather_no z = so_far ∙ sym (ap (backward t) from_here ∙ backward_no t (get_or p (i - 1) 0) (drop i p) z)
+  pub gather_full : t c ≡ true → length found < length (backward t all)
+  gather_full y =
+      omega (arith, ap length (gather_yes y), length-append (found ++ c ∷ []) (backward t rest'), length_push found c)
 
-  pub gather_full : (j : ℕ) → t (get_or p (i - 1) 0) ≡ true → n ≤ length found → j ≤ i - 1 → n < length (backward t (drop j p))
-  gather_full j y l h =
-      let a = length-take-le n found l in
-      let b = ap length so_far in
-      let c = ap length (ap (backward t) from_here ∙ backward_yes t (get_or p (i - 1) 0) (drop i p) y) in
-      let d = length_push (backward t (drop i p)) (get_or p (i - 1) 0) in
-      let e = backward_drop t p (i - 1) j h in
-      omega arith
+pub gather_all : (t : ℕ → Bool) (all found rest : List ℕ) → length rest ≡ 0 → backward t all ≡ found ++ backward t rest → found ≡ backward t all
+unfolding backward
+gather_all t all found [] e so_far = sym (so_far ∙ append-nil found)
+gather_all t all found (x ∷ rest) e so_far = absurd (omega arith)
 
 -- ---- the members of the block, written rising
 
@@ -86,6 +85,16 @@ none_larger pic m h =
       clique = record { placed = λ i t. absurd (no i t); inside = λ i t. absurd (no i t); joins = λ i j t. absurd (no i t) };
       most = λ K k. let a = h K k in omega arith;
     }
+
+-- ---- what a search for more than a - 1 members answers
+
+pub reaches_more : (pic : Picture) (m a n : ℕ) (r : Option ℕ) → 0 < a → n ≡ a - 1 → Answers pic m n r → Reaches pic m a r
+reaches_more pic m a n None pos e h = (pos, λ K k. omega (arith, h K k))
+reaches_more pic m a n (Some k) pos e h = (h.0, omega (arith, h.1))
+
+pub reaches_any : (pic : Picture) (m a n : ℕ) (r : Option ℕ) → a ≡ 0 → n ≡ a - 1 → Answers pic m n r → Reaches pic m a (option_or r (Some 0))
+reaches_any pic m a n None z e h = (none_larger pic m (λ K k. omega (arith, h K k)), omega arith)
+reaches_any pic m a n (Some k) z e h = (h.0, omega arith)
 
 -- ---- what the step makes of the block
 
@@ -144,28 +153,6 @@ module _ (g : Graph) (p q : List ℕ) (i : ℕ) (is : q ≡ later_list g p i) (l
   -- there are too few later neighbours
   pub climbs_few : (block : List ℕ) (a : ℕ) → length q < a → Climbs g p i block block a a
   climbs_few block a less-than = climbs_kept block a (length q) (λ once. most_listed g q) less-than
-
--- ---- whether a number is picked
-
-pub picked_here : (q : List ℕ) (k v c i : ℕ) → i < length q → bit k i ≡ true → get_or q i 0 ≡ c → true ≡ plus v (picked q k) c
-picked_here q k v c i l y e =
-    sym (or_right (eqb v c) (picked q k c) (ap (picked q k) (sym e) ∙ picked_from q k i l y))
-
-pub picked_none : (q : List ℕ) (k c : ℕ) → any (λ i. bit k i && eqb (get_or q i 0) c) 0 ≡ false
-picked_none q k c = any_none (λ i. bit k i && eqb (get_or q i 0) c)
-
-pub picked_more : (q : List ℕ) (k c i : ℕ) → (bit k i ≡ false) ⊎ (get_or q i 0 ≡ c → ⊥) → any (λ i. bit k i && eqb (get_or q i 0) c) i ≡ false → any (λ i. bit k i && eqb (get_or q i 0) c) (i + 1) ≡ false
-picked_more q k c i here before =
-    any_more (λ i. bit k i && eqb (get_or q i 0) c) i ∙ or_from (bit k i && eqb (get_or q i 0) c) (any (λ i. bit k i && eqb (get_or q i 0) c) i) (no here) before
-  where
-    no : (bit k i ≡ false) ⊎ (get_or q i 0 ≡ c → ⊥) → (bit k i && eqb (get_or q i 0) c) ≡ false
-    no (inl z) = and_left (bit k i) (eqb (get_or q i 0) c) z
-    no (inr ne) = and_right (bit k i) (eqb (get_or q i 0) c) (ne_eqb (get_or q i 0) c ne)
-
-pub picked_all : (q : List ℕ) (k v c i : ℕ) → (v ≡ c → ⊥) → length q ≡ i → any (λ i. bit k i && eqb (get_or q i 0) c) i ≡ false → false ≡ plus v (picked q k) c
-unfolding picked
-picked_all q k v c i ne e f =
-    sym (or_from (eqb v c) (any (λ i. bit k i && eqb (get_or q i 0) c) (length q)) (ne_eqb v c ne) (ap (any (λ i. bit k i && eqb (get_or q i 0) c)) e ∙ f))
 
 -- ---- all steps
 

@@ -65,7 +65,7 @@ table_marked a b q k v n s f h c l = h c (omega arith) ∙ ap (λ (x : Bool). eq
 
 -- ---- few are left near the end
 
-backward_short : (t : ℕ → Bool) (xs : List ℕ) → length (backward t xs) ≤ length xs
+pub backward_short : (t : ℕ → Bool) (xs : List ℕ) → length (backward t xs) ≤ length xs
 backward_short t [] = omega (arith, ap length (backward_none t))
 backward_short t (x ∷ xs) =
     let ih = backward_short t xs in

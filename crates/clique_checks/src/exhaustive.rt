@@ -1,13 +1,9 @@
+use masks::Members;
 use pictures::Picture;
 
 // Whether the members of `set` are all joined.
 pub fn is_clique(p: &Picture, set: u64) -> bool {
-    for i in 0..64 {
-        if set >> i & 1 == 1 && set & !p.row(i) != 1 << i {
-            return false;
-        }
-    }
-    true
+    Members::of(set).all(|i| set & !p.row(i) == 1 << i)
 }
 
 // How many members a largest clique inside `mask` has, of a picture of at most 14 places, by a look at every set.

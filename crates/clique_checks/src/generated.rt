@@ -38,9 +38,8 @@ fn some_places(dice: &mut Dice, n: usize, chance: u64) -> u64 {
 // Which of 14 places are joined, each pair with a chance of `chance` in 16.
 fn some_rows(dice: &mut Dice, chance: u64) -> [u64; 14] {
     let mut rows = [0u64; 14];
-    for i in 0..14 {
-        let lower = some_places(dice, i, chance);
-        rows[i] = lower;
+    for (i, row) in rows.iter_mut().enumerate() {
+        *row = some_places(dice, i, chance);
     }
     rows
 }

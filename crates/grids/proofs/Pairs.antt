@@ -1,6 +1,6 @@
 -- The largest pair that qualifies, from the largest degree of each class.
-use Rattle.std.proofs.Common.{◌≡◌, ℕ, ◌+◌, ◌<◌, ◌≤◌, max, Bool, true, cond, not, ◌&&◌, eqb, leb, List, length, get_or, take, sym, refl, ap, ◌∙◌, inl, inr, arith}
-use Rattle.std.proofs.lemmas.List.{length-take-le, get_or-take}
+use Rattle.std.proofs.Common.{◌≡◌, ℕ, ◌+◌, ◌<◌, ◌≤◌, max, Bool, true, cond, not, ◌&&◌, eqb, leb, List, length, map, get_or, sym, refl, ap, ◌∙◌, inl, inr, arith}
+use Rattle.std.proofs.lemmas.List.{length-map, get_or-map}
 use Rattle.std.proofs.lemmas.Bool.{cases_Bool, cases_lt, eq-eqb, ne_eqb, le-leb, lt-leb, and_from, and_left, and_right, cond-true, cond-false}
 use Rattle.finite.specs.Finite.{any, count}
 use Rattle.finite.specs.Masks.{bit}
@@ -27,10 +27,9 @@ top_without degree m m' i l t bits =
     whole x = grind (arith, cases_Bool x)
 
 -- the largest degrees of the classes tell how many contain s or more
-pub tops_reach : (degree : ℕ → ℕ) (cs ts : List ℕ) (n s : ℕ) → n ≡ length cs → n ≤ length ts → ((k : ℕ) → k < n → any (bit (get_or cs k 0)) 64 ≡ true) → ((k : ℕ) → k < n → get_or ts k 0 ≡ top degree (get_or cs k 0)) → at_least (take n ts) s ≡ reaching degree cs s
-tops_reach degree cs ts n s e l some is =
-    let m = length-take-le n ts l in
-    ap (count (λ k. leb s (get_or (take n ts) k 0))) (m ∙ e) ∙ count_same (λ k. leb s (get_or (take n ts) k 0)) (λ k. reaches degree s (get_or cs k 0)) (length cs) (λ k h. let j : k < n = omega arith in ap (leb s) (get_or-take n ts k 0 j ∙ is k j) ∙ top_reaches degree s (get_or cs k 0) (some k j))
+pub tops_reach : (degree : ℕ → ℕ) (cs : List ℕ) (s : ℕ) → ((k : ℕ) → k < length cs → any (bit (get_or cs k 0)) 64 ≡ true) → at_least (map (top degree) cs) s ≡ reaching degree cs s
+tops_reach degree cs s some =
+    ap (count (λ k. leb s (get_or (map (top degree) cs) k 0))) (length-map cs (top degree)) ∙ count_same (λ k. leb s (get_or (map (top degree) cs) k 0)) (λ k. reaches degree s (get_or cs k 0)) (length cs) (λ k h. ap (leb s) (get_or-map (top degree) cs k 0 0 h) ∙ top_reaches degree s (get_or cs k 0) (some k h))
 
 -- ---- the pairs with one s, for r in turn
 

@@ -1,29 +1,15 @@
-ghost use Rattle.std.specs.Prelude.{◌≡◌, ◌+◌, ◌-◌, ◌<◌, ◌≤◌, true, length, take, drop};
-ghost use Rattle.climbing.specs.Climbs.{BlockIn, EachOnce, backward, last};
+ghost use Rattle.std.specs.Prelude.{◌+◌, ◌-◌, ◌<◌, ◌≤◌, length};
+ghost use Rattle.climbing.specs.Climbs.{BlockIn, EachOnce, last};
 ghost use Rattle.pictures.specs.Pictures.{places};
 ghost use Rattle.searching.specs.Climbed.{Climbed};
 
-use crate::{at_least, picked_table, write_block};
+use crate::at_least;
 use bounds::Bound;
+use climb::blocks::{picked_table, write_block};
+use climb::gathering::gather;
 use graph::Listed;
 use masks::{below, meet, size, with};
 use pictures::{Picture, draw_listed};
-
-// Writes the vertices from `start` on, the last first, and says how many.
-fn write_back(order: &[u16], start: usize, found: &mut [u16]) -> usize
-    requires within { start ≤ length order.now }
-    requires few { length order.now ≤ start + 64 }
-    requires fits { 64 ≤ length found.old }
-    ensures bound { result ≤ 64 }
-    ensures items { take result found.new ≡ backward (λ _. true) (drop start order.now) }
-{
-    let mut count = 0;
-    for i in (start..order.len()).rev() {
-        found[count] = order[i];
-        count += 1;
-    }
-    count
-}
 
 // A clique of a picture, and how many members it has.
 #[derive(Clone, Copy)]
@@ -76,12 +62,12 @@ pub(crate) fn climb_tail<S: Listed, B: Bound>(
     ensures bound { result ≤ 64 }
     ensures block { EachOnce (S.Source.graph source.now) order.now → BlockIn (S.Source.graph source.now) (last order.now (length order.now - start)) block.new result }
 {
-    let mut table = [0u16; 64];
-    let count = write_back(order, start, &mut table);
-    let chosen = &table[0..count];
-    let Ok(picture) = draw_listed(source, chosen) else {
+    let Some(chosen) = gather::<64, _>(&order[start..], |_| true) else {
+        return 0;
+    };
+    let Ok(picture) = draw_listed(source, &chosen) else {
         return 0;
     };
     let mask = climb_picture(bound, &picture).mask;
-    write_block(block, source.size(), &picked_table(chosen, mask))
+    write_block(block, source.size(), &picked_table(&chosen, mask))
 }

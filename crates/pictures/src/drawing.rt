@@ -1,6 +1,6 @@
-ghost use Rattle.std.specs.Prelude.{◌≡◌, ℕ, ◌+◌, ◌<◌, ◌≤◌, length, MatchResult};
+ghost use Rattle.std.specs.Prelude.{◌≡◌, ℕ, ◌+◌, ◌<◌, ◌≤◌, Bool, false, length, MatchResult, slice_index};
 ghost use Rattle.grids.specs.Draws.{Drawn};
-ghost use Rattle.pictures.specs.Pictures.{Draws, joined, paired, places};
+ghost use Rattle.pictures.specs.Pictures.{Draws, joined, places};
 
 use crate::shape::Picture;
 use graph::Source;
@@ -15,22 +15,27 @@ pub fn draw<S: Source>(source: &S, chosen: &[u16]) -> Result<Picture, Refusal>
         return Err(Refusal::TooLarge);
     }
     let mut picture = Picture::blank(chosen.len());
-    for i in 0..chosen.len() {
-        draw_row(&mut picture, source, chosen, i);
+    for (i, v) in chosen.iter().enumerate() {
+        join_near(&mut picture, chosen, i, |c| source.clashes(*v as usize, c));
     }
     Ok(picture)
 }
 
-// Joins place `i` with the places below it.
-fn draw_row<S: Source>(picture: &mut Picture, source: &S, chosen: &[u16], i: usize)
+// Joins place `i` with the places below it whose vertices are near.
+pub(crate) fn join_near<F: Fn(usize) -> bool>(
+    picture: &mut Picture,
+    chosen: &[u16],
+    i: usize,
+    near: F,
+)
     requires within { i < length chosen.now }
     requires size { places picture.old ≡ length chosen.now }
-    requires drawn { Drawn (paired (S.Source.graph source.now) chosen.now) (joined picture.old) i 0 }
+    requires callable { F.IsAlwaysCallable near }
     ensures size { places picture.new ≡ places picture.old }
-    ensures drawn { Drawn (paired (S.Source.graph source.now) chosen.now) (joined picture.new) (i + 1) 0 }
+    ensures drawn { (e : ℕ → ℕ → Bool) → ((a b : ℕ) → e a b ≡ e b a) → ((a : ℕ) → e a a ≡ false) → ((j : ℕ) (r : Bool) → j < i → F.post near (slice_index chosen.now j) r → r ≡ e i j) → Drawn e (joined picture.old) i 0 → Drawn e (joined picture.new) (i + 1) 0 }
 {
-    for j in 0..i {
-        if source.clashes(chosen[i] as usize, chosen[j] as usize) {
+    for (j, u) in chosen[..i].iter().enumerate() {
+        if near(*u as usize) {
             picture.join(i, j);
         }
     }

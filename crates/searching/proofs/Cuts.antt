@@ -1,6 +1,5 @@
--- Classes taken from a mask, and the places of each level of the search that are left to branch on.
-use Rattle.std.proofs.Common.{◌≡◌, ℕ, ◌+◌, ◌-◌, ◌<◌, ◌≤◌, Bool, true, false, not, ◌&&◌, eqb, ◌⊎◌, List, length, get_or, set, replicate, sym, refl, ap, ◌∙◌, inl, inr, ⊎_elim, arith}
-use Rattle.std.proofs.lemmas.List.{length-set, get_or-set_same, get_or-set_other}
+-- Classes taken from a mask, and the places of a mask that are left to branch on.
+use Rattle.std.proofs.Common.{◌≡◌, ℕ, ◌+◌, ◌<◌, ◌≤◌, Bool, true, false, not, ◌&&◌, eqb, ◌⊎◌, sym, refl, ap, ◌∙◌, inl, inr, ⊎_elim, arith}
 use Rattle.std.proofs.lemmas.Bool.{cases_Bool, cases_eq, eq-eqb, ne_eqb, and_parts, and_from, and_right, both_ways, not-true, not_from_false}
 use Rattle.finite.specs.Finite.{count}
 use Rattle.finite.specs.Masks.{bit}
@@ -124,75 +123,14 @@ nothing_within m i t = absurd (both_ways _ (bit_zero i) t)
 pub cut_all : (p : Picture) (m b n : ℕ) → b ≡ 0 → Cut p m b n → AtMost p m n
 cut_all p m b n e cut K k = cut K k (λ i _. bit_none b i e)
 
--- ---- the branches of a stack
+-- ---- what is left to branch on when v is taken
 
-pub record Cuts (p : Picture) (spare branch : List ℕ) (height most : ℕ) : Type 0 where
-  pub room : length branch ≡ 65
-  pub within : (k : ℕ) → k < height → Within (bit (get_or branch k 0)) (bit (get_or spare k 0))
-  pub cut : (k : ℕ) → k < height → Cut p (get_or spare k 0) (get_or branch k 0) (most - k)
+module _ (p : Picture) (m b v rest less n : ℕ) (isrest : (j : ℕ) → bit rest j ≡ (bit m j && not (eqb j v))) (isless : (j : ℕ) → bit less j ≡ (bit b j && not (eqb j v))) where
+  pub taken_within : Within (bit b) (bit m) → Within (bit less) (bit rest)
+  taken_within w j t = less_other m rest v isrest j (less_not b less v isless j t) (w j (less_within b less v isless j t))
 
-pub cuts_none : (p : Picture) (first b least : ℕ) (spare branch : List ℕ) → Within (bit b) (bit first) → Cut p first b least → spare ≡ set (replicate 65 0) 0 first → branch ≡ set (replicate 65 0) 0 b → Cuts p spare branch 1 least
-cuts_none p first b least spare branch w c es eb =
-    let so : get_or spare 0 0 ≡ first = rw es refl in
-    let bo : get_or branch 0 0 ≡ b = rw eb refl in
-    record {
-      room = rw eb refl;
-      within = λ k h. let e : k ≡ 0 = omega arith in rw (e, so, bo) w;
-      cut = λ k h. let e : k ≡ 0 = omega arith in rw (e, so, bo) (cut_weaker p first b least (least - 0) (omega arith) c);
-    }
-
-pub cuts_less : (p : Picture) (spare branch : List ℕ) (height top most : ℕ) → height ≡ top + 1 → Cuts p spare branch height most → Cuts p spare branch top most
-cuts_less p spare branch height top most e st =
-    record { room = st.room; within = λ k h. st.within k (omega arith); cut = λ k h. st.cut k (omega arith) }
-
--- two places of a list are written
-module _ (xs : List ℕ) (top a b : ℕ) (room : top + 1 < length xs) where
-  two_low : (k : ℕ) → k < top → get_or (set (set xs top a) (top + 1) b) k 0 ≡ get_or xs k 0
-  two_low k h = get_or-set_other (set xs top a) (top + 1) k b 0 (λ e. omega arith) ∙ get_or-set_other xs top k a 0 (λ e. omega arith)
-
-  two_top : get_or (set (set xs top a) (top + 1) b) top 0 ≡ a
-  two_top = get_or-set_other (set xs top a) (top + 1) top b 0 (λ e. omega arith) ∙ get_or-set_same xs top a 0 (omega arith)
-
-  two_next : get_or (set (set xs top a) (top + 1) b) (top + 1) 0 ≡ b
-  two_next = get_or-set_same (set xs top a) (top + 1) b 0 (omega (arith, length-set xs top a))
-
-module _ (p : Picture) (spare branch : List ℕ) (top most most' v rest less next b : ℕ) (st : Cuts p spare branch (top + 1) most) (long : length spare ≡ 65) (fits : top + 1 < 65) (grows : most ≤ most') (isrest : (j : ℕ) → bit rest j ≡ (bit (get_or spare top 0) j && not (eqb j v))) (isless : (j : ℕ) → bit less j ≡ (bit (get_or branch top 0) j && not (eqb j v))) (w : Within (bit b) (bit next)) (c : Cut p next b (most' - (top + 1))) where
-  top_within : Within (bit less) (bit rest)
-  top_within j t =
-      less_other (get_or spare top 0) rest v isrest j (less_not (get_or branch top 0) less v isless j t) (st.within top (omega arith) j (less_within (get_or branch top 0) less v isless j t))
-
-  top_cut : Cut p rest less (most' - top)
-  top_cut K k av =
-      let a = st.cut top (omega arith) K
-      (record { placed = k.placed; inside = λ i t. less_within (get_or spare top 0) rest v isrest i (k.inside i t); joins = k.joins })
-      (λ i t. ⊎_elim (λ y. absurd (less_not (get_or spare top 0) rest v isrest i (k.inside i t) (less_none (get_or branch top 0) less v isless i y (av i t)))) (λ f. f) (cases_Bool (bit (get_or branch top 0) i))) in
-      omega arith
-
-  pub cuts_push : Cuts p (set (set spare top rest) (top + 1) next) (set (set branch top less) (top + 1) b) (top + 1 + 1) most'
-  cuts_push = record {
-    room = length-set (set branch top less) (top + 1) b ∙ length-set branch top less ∙ st.room;
-    within = λ k h. ⊎_elim
-        (λ (e : k ≡ top + 1). rw (e, two_next branch top less b br, two_next spare top rest next sr) w)
-        (λ ne. ⊎_elim
-        (λ (e : k ≡ top). rw (e, two_top branch top less b br, two_top spare top rest next sr) top_within)
-        (λ ne'. rw (two_low branch top less b br k (omega arith), two_low spare top rest next sr k (omega arith)) (st.within k (omega arith)))
-        (cases_eq k top))
-        (cases_eq k (top + 1));
-    cut = λ k h. ⊎_elim
-        (λ (e : k ≡ top + 1). rw (e, two_next branch top less b br, two_next spare top rest next sr) c)
-        (λ ne. ⊎_elim
-        (λ (e : k ≡ top). rw (e, two_top branch top less b br, two_top spare top rest next sr) top_cut)
-        (λ ne'. rw (two_low branch top less b br k (omega arith), two_low spare top rest next sr k (omega arith)) (cut_weaker p (get_or spare k 0) (get_or branch k 0) (most - k) (most' - k) (omega arith) (st.cut k (omega arith))))
-        (cases_eq k top))
-        (cases_eq k (top + 1));
-  }
-    where
-      br : top + 1 < length branch
-      br = omega (arith, st.room)
-
-      sr : top + 1 < length spare
-      sr = omega arith
-
-pub cuts_pushed : (p : Picture) (spare branch : List ℕ) (height top most most' v rest less next b : ℕ) → height ≡ top + 1 → Cuts p spare branch height most → length spare ≡ 65 → height < 65 → most ≤ most' → ((j : ℕ) → bit rest j ≡ (bit (get_or spare top 0) j && not (eqb j v))) → ((j : ℕ) → bit less j ≡ (bit (get_or branch top 0) j && not (eqb j v))) → Within (bit b) (bit next) → Cut p next b (most' - height) → Cuts p (set (set spare top rest) height next) (set (set branch top less) height b) (height + 1) most'
-cuts_pushed p spare branch height top most most' v rest less next b e st long fits grows isrest isless w c =
-    rw e (cuts_push p spare branch top most most' v rest less next b (rw e at st) long (rw e at fits) grows isrest isless w (rw e at c))
+  pub taken_cut : Cut p m b n → Cut p rest less n
+  taken_cut c K k av =
+      c K
+      (record { placed = k.placed; inside = λ i t. less_within m rest v isrest i (k.inside i t); joins = k.joins })
+      (λ i t. ⊎_elim (λ y. absurd (less_not m rest v isrest i (k.inside i t) (less_none b less v isless i y (av i t)))) (λ f. f) (cases_Bool (bit b i)))

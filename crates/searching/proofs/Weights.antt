@@ -1,7 +1,5 @@
 -- The measure of a search over a stack of masks: each mask weighs more than any two smaller ones.
-use Rattle.std.proofs.Common.{◌≡◌, ℕ, zero, suc, ◌+◌, ◌<◌, ◌≤◌, List, length, get_or, take, set, sum_by, ap, ◌∙◌, ⊎_elim, arith}
-use Rattle.std.proofs.lemmas.List.{take-set-le, take_more_set, get_or-set_same, length-set}
-use Rattle.std.proofs.lemmas.List.Sums.{sum_by_more, sum_by_push}
+use Rattle.std.proofs.Common.{◌≡◌, ℕ, zero, suc, ◌+◌, ◌<◌, ◌≤◌, refl, ap, ◌∙◌, ⊎_elim, add-one, arith}
 use Rattle.std.proofs.lemmas.Bool.{cases_eq}
 
 unfoldable pub weight : ℕ → ℕ
@@ -24,31 +22,35 @@ weight_two zero a b h k = absurd (omega arith)
 weight_two (suc m) a b h k = let x = weight_mono a m (omega arith) in let y = weight_mono b m (omega arith) in omega arith
 
 -- what the first n masks weigh
-unfoldable pub load : List ℕ → ℕ → ℕ
-load masks n = sum_by weight (take n masks)
+unfoldable pub load : (ℕ → ℕ) → ℕ → ℕ
+load f zero = 0
+load f (suc n) = load f n + weight (f n)
 
-pub load_pop : (xs : List ℕ) (top : ℕ) → top < length xs → load xs top < load xs (top + 1)
+load_same : (f f' : ℕ → ℕ) (n : ℕ) → ((k : ℕ) → k < n → f' k ≡ f k) → load f' n ≡ load f n
 unfolding load
-load_pop xs top h = let s = sum_by_more weight xs top 0 h in let w = weight_pos (get_or xs top 0) in omega arith
+load_same f f' zero h = refl
+load_same f f' (suc n) h = let a = load_same f f' n (λ k l. h k (omega arith)) in let b = ap weight (h n (omega arith)) in omega arith
 
-pub load_push : (xs : List ℕ) (top a b : ℕ) → top + 1 < length xs → a < get_or xs top 0 → b ≤ a → load (set (set xs top a) (top + 1) b) (top + 1 + 1) < load xs (top + 1)
+load_more : (f : ℕ → ℕ) (n : ℕ) → load f (n + 1) ≡ load f n + weight (f n)
 unfolding load
-load_push xs top a b h l k =
-    let ys = set xs top a in
-    let zs = set ys (top + 1) b in
-    let ly : length ys ≡ length xs = length-set xs top a in
-    let lz : length zs ≡ length ys = length-set ys (top + 1) b in
-    let s₁ = sum_by_more weight zs (top + 1) 0 (omega arith) in
-    let g : get_or zs (top + 1) 0 ≡ b = get_or-set_same ys (top + 1) b 0 (omega arith) in
-    let gw : weight (get_or zs (top + 1) 0) ≡ weight b = ap weight g in
-    let t : take (top + 1) zs ≡ take (top + 1) ys = take-set-le (top + 1) ys (top + 1) b (omega arith) in
-    let ts : sum_by weight (take (top + 1) zs) ≡ sum_by weight (take top xs) + weight a = ap (sum_by weight) (t ∙ take_more_set xs top a (omega arith)) ∙ sum_by_push weight (take top xs) a in
-    let s₂ = sum_by_more weight xs top 0 (omega arith) in
-    let w = weight_two (get_or xs top 0) a b l k in
+load_more f n = ap (load f) (add-one n)
+
+-- the mask at the top goes
+pub load_popped : (f f' : ℕ → ℕ) (height top : ℕ) → height ≡ top + 1 → ((k : ℕ) → k < top → f' k ≡ f k) → load f' top < load f height
+load_popped f f' height top e low =
+    let a = load_same f f' top low in
+    let b = ap (load f) e ∙ load_more f top in
+    let w = weight_pos (f top) in
     omega arith
 
-pub load_popped : (xs : List ℕ) (height top : ℕ) → height ≡ top + 1 → top < length xs → load xs top < load xs height
-load_popped xs height top e h = rw e (load_pop xs top h)
-
-pub load_pushed : (xs : List ℕ) (height top a b : ℕ) → height ≡ top + 1 → height < length xs → a < get_or xs top 0 → b ≤ a → load (set (set xs top a) height b) (height + 1) < load xs height
-load_pushed xs height top a b e h l k = rw e (load_push xs top a b (omega arith) l k)
+-- it becomes smaller, and another that is no larger comes to stand on it
+pub load_pushed : (f f' : ℕ → ℕ) (height height' top a b : ℕ) → height ≡ top + 1 → height' ≡ top + 1 + 1 → ((k : ℕ) → k < top → f' k ≡ f k) → f' top ≡ a → f' (top + 1) ≡ b → a < f top → b ≤ a → load f' height' < load f height
+load_pushed f f' height height' top a b e e' low at next l h =
+    let x = load_same f f' top low in
+    let y = ap (load f) e ∙ load_more f top in
+    let z = ap (load f') e' ∙ load_more f' (top + 1) in
+    let u = load_more f' top in
+    let v = ap weight at in
+    let t = ap weight next in
+    let w = weight_two (f top) a b l h in
+    omega arith

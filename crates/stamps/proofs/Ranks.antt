@@ -13,11 +13,11 @@ pub record First (g : Graph) (v s : ℕ) (before after : List ℕ) (i : ℕ) : T
   pub done : (c : ℕ) → clash g v c ≡ true → count (clash g v) c < i → get_or after c 0 ≡ s
   pub others : (c : ℕ) → clash g v c ≡ false → get_or after c 0 ≡ get_or before c 0
 
-pub first_none : (g : Graph) (v s : ℕ) (row : List ℕ) → First g v s row row 0
-first_none g v s row = record { done = λ c y h. absurd (omega arith); others = λ c y. refl }
+pub first_none : (g : Graph) (v s : ℕ) (row : List ℕ) (i : ℕ) → i ≡ 0 → First g v s row row i
+first_none g v s row i e = record { done = λ c y h. absurd (omega arith); others = λ c y. refl }
 
-pub first_more : (g : Graph) (v s : ℕ) (before after : List ℕ) (i b : ℕ) → First g v s before after i → b < length after → clash g v b ≡ true → count (clash g v) b ≡ i → First g v s before (set after b s) (i + 1)
-first_more g v s before after i b t lt y e = record {
+pub first_more : (g : Graph) (v s : ℕ) (before after : List ℕ) (i b j : ℕ) → First g v s before after i → b < length after → clash g v b ≡ true → count (clash g v) b ≡ i → j ≡ i + 1 → First g v s before (set after b s) j
+first_more g v s before after i b j t lt y e more = record {
   done = λ c z h. elim (cases_eq c b) [
     | inl q ↦ ap (λ (m : ℕ). get_or (set after b s) m 0) q ∙ get_or-set_same after b s 0 lt
     | inr ne ↦ let r : count (clash g v) c ≡ i → ⊥ = λ x. ne (rank_one (clash g v) c b z y (x ∙ sym e)) in

@@ -1,6 +1,6 @@
 -- The masks and degrees of the code are those of the definition.
-use Rattle.std.proofs.Common.{◌≡◌, ℕ, ◌/◌, ◌^◌, ◌<◌, ◌≤◌, Bool, not, ◌&&◌, ltb, List, length, get_or, take, sym, ap, ◌∙◌, arith}
-use Rattle.std.proofs.lemmas.List.{length-take-le, get_or-take}
+use Rattle.std.proofs.Common.{◌≡◌, ℕ, ◌/◌, ◌^◌, ◌<◌, ◌≤◌, Bool, not, ◌&&◌, ltb, List, length, map, take, ap, ◌∙◌, arith}
+use Rattle.std.proofs.lemmas.List.{length-map, length-take-le}
 use Rattle.finite.specs.Masks.{bit}
 use Rattle.finite.proofs.Masks.{mask_is}
 use Rattle.grids.specs.Classes.{classes}
@@ -28,13 +28,15 @@ upper_is p m half count count' all inside w l ec ed eh ea ei members =
     mask_is 64 w (λ i. (bit m i && ltb i (places p)) && not (ltb i (places p / 2))) l (λ j.
     members j ∙ ap (λ (v : Bool). v && not (bit half j)) (ei j ∙ ap (λ (v : Bool). bit m j && v) (ea j ∙ ap (ltb j) ed)) ∙ ap (λ (v : Bool). (bit m j && ltb j (places p)) && not v) (eh j ∙ ap (λ (n : ℕ). ltb j (n / 2)) ec))
 
+-- there is room for one more
+pub tops_room : (f : ℕ → ℕ) (cs ts : List ℕ) (i : ℕ) → ts ≡ map f (take i cs) → i < length cs → length cs ≤ 64 → length ts < 64
+tops_room f cs ts i e l h = omega (arith, ap length e, length-map (take i cs) f, length-take-le i cs (omega arith))
+
 -- the largest clique degree of each class
-pub tops_are : (answer : Picture → ℕ → ℕ) (p : Picture) (own other n k : ℕ) (masks tops : List ℕ) → take n masks ≡ classes p.rows own (places p) → length masks ≡ 64 → n ≤ 64 → length tops ≡ 64 → n ≤ k → ((j : ℕ) → j < k → get_or tops j 0 ≡ top (clique_degree answer p other) (get_or masks j 0)) → (s : ℕ) → at_least (take n tops) s ≡ part_reaching answer p own other s
-tops_are answer p own other n k masks tops value lm ln lt le is s =
-    let e : n ≡ length (classes p.rows own (places p)) = sym (length-take-le n masks (omega arith)) ∙ ap length value in
-    tops_reach (clique_degree answer p other) (classes p.rows own (places p)) tops n s e (omega arith)
-    (λ j h. classes_some p.rows own (places p) j p.small (omega arith))
-    (λ j h. is j (omega arith) ∙ ap (top (clique_degree answer p other)) (sym (get_or-take n masks j 0 h) ∙ ap (λ (cs : List ℕ). get_or cs j 0) value))
+pub tops_are : (answer : Picture → ℕ → ℕ) (p : Picture) (own other : ℕ) (cs ts : List ℕ) → cs ≡ classes p.rows own (places p) → ts ≡ map (top (clique_degree answer p other)) cs → (s : ℕ) → at_least ts s ≡ part_reaching answer p own other s
+tops_are answer p own other cs ts e f s =
+    let degree = clique_degree answer p other in
+    ap (λ (xs : List ℕ). at_least xs s) (f ∙ ap (map (top degree)) e) ∙ tops_reach degree (classes p.rows own (places p)) s (λ k h. classes_some p.rows own (places p) k p.small h)
 
 -- the answer
 pub answer_is : (answer : Picture → ℕ → ℕ) (p : Picture) (m u w : ℕ) (us ws : List ℕ) (r : ℕ) → u ≡ lower_part p m → w ≡ upper_part p m → ((s : ℕ) → at_least us s ≡ part_reaching answer p u w s) → ((s : ℕ) → at_least ws s ≡ part_reaching answer p w u s) → r ≡ largest (at_least us) (at_least ws) → r ≡ two_part answer p m

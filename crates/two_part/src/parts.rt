@@ -1,30 +1,22 @@
-ghost use Rattle.std.specs.Prelude.{◌≡◌, ℕ, ◌≤◌, length, take};
+ghost use Rattle.std.specs.Prelude.{◌≡◌, ℕ};
 ghost use Rattle.grids.specs.Largest.{at_least, top};
 ghost use Rattle.two_part.specs.TwoPart.{clique_degree, part_reaching};
 
+use arrayvec::ArrayVec;
 use bounds::{Bound, classes};
 use masks::{Members, meet};
 use pictures::Picture;
 
-// The largest clique degree of each class of a part: the first `count` numbers.
-#[derive(Drop)]
-pub(crate) struct Degrees {
-    pub(crate) tops: [u32; 64],
-    pub(crate) count: usize,
-    ghost few: { count ≤ 64 },
-}
-
 // The largest clique degree in each class of `own`, towards `other`.
-pub(crate) fn tops<B: Bound>(bound: &B, p: &Picture, own: u64, other: u64) -> Degrees
-    ensures { (s : ℕ) → at_least (take result.count result.tops) s ≡ part_reaching (B.Bound.answer bound.now) p.now own other s }
+pub(crate) fn tops<B: Bound>(bound: &B, p: &Picture, own: u64, other: u64) -> ArrayVec<u32, 64>
+    ensures { (s : ℕ) → at_least result.items s ≡ part_reaching (B.Bound.answer bound.now) p.now own other s }
 {
+    let mut tops = ArrayVec::new();
     let parted = classes(p, own);
-    let count = parted.count;
-    let mut tops = [0u32; 64];
-    for k in 0..count {
-        tops[k] = top(bound, p, parted.masks[k], other);
+    for class in parted.iter() {
+        tops.push(top(bound, p, *class, other));
     }
-    Degrees { tops, count }
+    tops
 }
 
 // The largest clique degree in a class, towards `other`.

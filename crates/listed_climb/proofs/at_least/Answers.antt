@@ -1,12 +1,9 @@
 use Rattle.std.proofs.Common.{arith}
-use Rattle.climbing.proofs.Blocks.{none_larger}
+use Rattle.climbing.proofs.Blocks.{reaches_any, reaches_more}
 use Rattle.listed_climb.proofs.at_least.Goals as goal
 
-pub returns-in-Some : goal.returns-in-Some
-returns-in-Some g c = (c.in-Some.ensures.0, omega (arith, c.in-Some.ensures.1, c.saturating_sub.ensures))
+pub returns-then-len-eq0 : goal.returns-then-len-eq0
+returns-then-len-eq0 g c = rw c.or.ensures (reaches_any _ _ _ _ _ c.if-len-eq0.true c.saturating_sub.ensures c.largest-found.ensures)
 
-pub returns-in-None : goal.returns-in-None
-returns-in-None g c = (none_larger c.args.p.now c.args.mask (λ K k. omega (arith, c.in-None.ensures K k, c.saturating_sub.ensures)), omega arith)
-
-pub returns-in-None-2 : goal.returns-in-None-2
-returns-in-None-2 g c = (omega arith, λ K k. omega (arith, c.in-None.ensures K k, c.saturating_sub.ensures))
+pub returns-else-len-eq0 : goal.returns-else-len-eq0
+returns-else-len-eq0 g c = reaches_more _ _ _ _ _ (omega (arith, c.if-len-eq0.false)) c.saturating_sub.ensures c.largest-found.ensures

@@ -1,40 +1,41 @@
-use Rattle.std.proofs.Common.{◌≡◌, ◌+◌, ◌-◌, ◌<◌, Bool, ◌&&◌, ltb, ◌⊎◌, refl, ap, ◌∙◌, inl, inr, arith, length-take}
+use Rattle.std.proofs.Common.{◌<◌, Bool, ◌&&◌, ltb, length, get_or, set, ap, ◌∙◌, arith}
+use lib.Bits.{bit_or}
+use Rattle.std.proofs.lemmas.List.{length-set}
+use Rattle.arrayvec.proofs.ArrayVecLemmas.{items-with_items}
 use Rattle.finite.specs.Masks.{bit}
 use Rattle.finite.proofs.Masks.{one_at}
-use Rattle.grids.proofs.Walks.{stands_none, stands_all, stands_room, stands_turn}
+use Rattle.grids.proofs.Walks.{stands_none, stands_all, stands_room, stands_new, stands_at}
 use Rattle.bounds.proofs.by_class.classes.Goals as goal
-use Rattle.bounds.proofs.by_class.classes.Goals.{then-c-used, else-c-used}
 
-pub loop-rest-init : goal.loop-rest-init
-loop-rest-init c =
-    stands_none c.args.p.now.rows c.args.mask c.args.p.now.count c.meet-rest.result
-    (λ j. c.meet-rest.ensures.members j ∙ ap (λ (v : Bool). bit c.args.mask j && v) (c.below.ensures j ∙ ap (ltb j) c.count.ensures.value))
+pub loop-i-init : goal.loop-i-init
+loop-i-init c =
+    rw (c.new-made.ensures, c.into_iter-i-iterator.ensures.into_iter_gives, c.of-i-items.ensures)
+    (stands_none c.args.p.now.rows c.args.mask c.args.p.now.count c.meet.result
+    (λ j. c.meet.ensures.members j ∙ ap (λ (v : Bool). bit c.args.mask j && v) (c.below.ensures j ∙ ap (ltb j) c.count.ensures.value)))
 
-pub bounds-made-c : goal.bounds-made-c
-bounds-made-c c =
-    let u = stands_room _ _ _ _ _ _ _ c.loop-rest.invariant c.lowest-i.ensures.place c.lowest-i.ensures.member in
-    let l = length-take (c.loop-rest.used - 0) c.loop-rest.made in
-    omega (arith, c.fit-c.ensures.bound)
+pub push-requires : goal.push-requires
+push-requires c =
+    let s = c.in-Some.ensures.steps in
+    let room : length c.loop-i.made.items < 64 = stands_room _ _ _ _ _ _ c.loop-i.invariant s.0 s.1 in
+    (omega arith, room)
 
-pub bounds-made-c-in-loop-rest : goal.bounds-made-c-in-loop-rest
-bounds-made-c-in-loop-rest c =
-    let u = stands_room _ _ _ _ _ _ _ c.loop-rest.invariant c.lowest-i.ensures.place c.lowest-i.ensures.member in
-    let l = length-take (c.loop-rest.used - 0) c.loop-rest.made in
-    omega (arith, c.fit-c.ensures.bound)
+pub loop-i-preserved : goal.loop-i-preserved
+loop-i-preserved c =
+    let s = c.in-Some.ensures.steps in
+    let f = rw c.deref.ensures.0 at c.in-None-fit.ensures in
+    rw c.push.ensures.items (stands_new _ _ _ _ _ _ c.loop-i.invariant s.0 s.1 s.2 _ s.3 _ c.row.ensures _ (one_at c.in-Some.i s.0) f)
 
-pub loop-rest-preserved : goal.loop-rest-preserved
-loop-rest-preserved c =
-    let l = length-take (c.loop-rest.used - 0) c.loop-rest.made in
-    let way : ((c.fit-c.result ≡ c.loop-rest.used) × (c.if-c-used.used ≡ c.loop-rest.used + 1)) ⊎ ((c.fit-c.result < c.loop-rest.used) × (c.if-c-used.used ≡ c.loop-rest.used)) = elim c.if-c-used.branch [
-      | then-c-used w ↦ inl (w.if-c-used.true, w.used-is)
-      | else-c-used w ↦ inr (omega (arith, c.fit-c.ensures.bound, w.if-c-used.false), w.used-is)
-    ] in
-    stands_turn _ _ _ _ _ _ _ c.loop-rest.invariant c.lowest-i.ensures.place c.lowest-i.ensures.member c.lowest-i.ensures.least _ c.without-rest.ensures.members _ _ _ _ _ _ refl (one_at c.lowest-i.result c.lowest-i.ensures.place) c.row.ensures (omega arith) c.fit-c.ensures.value way
+pub loop-i-preserved-in-Some-fit : goal.loop-i-preserved-in-Some-fit
+loop-i-preserved-in-Some-fit c =
+    let s = c.in-Some.ensures.steps in
+    let f = rw c.deref.ensures.0 at c.in-Some-fit.ensures in
+    let v = c.deref_mut.ensures.value in
+    rw (items-with_items c.loop-i.made (set c.deref_mut.result.now c.in-Some-fit.c _) (length-set _ _ _ ∙ ap length v), v)
+    (stands_at _ _ _ _ _ _ c.loop-i.invariant s.0 s.1 s.2 _ s.3 _ c.row.ensures _ _ (ap (bit_or (get_or c.loop-i.made.items c.in-Some-fit.c 0)) (one_at c.in-Some.i s.0)) f.0 f.1)
 
 pub returns : goal.returns
 returns c =
     record {
-      value = stands_all _ _ _ _ _ _ c.loop-rest.invariant c.loop-rest-test.false;
-      bound = omega (arith, c.loop-rest.invariant.few);
-      len = c.loop-rest.invariant.room;
+      value = stands_all _ _ _ _ _ c.loop-i.invariant c.in-None.ensures.steps.0;
+      bound = omega (arith, c.loop-i.invariant.few);
     }

@@ -1,4 +1,4 @@
-use Rattle.std.proofs.Common.{◌≡◌, ℕ, length, ◌∙◌, subst, arith}
+use Rattle.std.proofs.Common.{◌≡◌, ℕ, length, ◌∙◌, subst, get_or, arith, rules, tests}
 use Rattle.grids.specs.Draws.{Drawn}
 use Rattle.grids.proofs.Draws.{drawn_none, drawn_all}
 use Rattle.pictures.specs.Pictures.{joined, paired}
@@ -10,7 +10,13 @@ loop-i-init g c =
     (c.blank-picture.ensures.size, drawn_none (paired G c.args.chosen.now) (joined c.blank-picture.result) c.blank-picture.ensures.none)
 
 pub loop-i-preserved : goal.loop-i-preserved
-loop-i-preserved g c = (c.draw_row.ensures.size ∙ c.loop-i.invariant.0, c.draw_row.ensures.drawn)
+loop-i-preserved g c =
+    let G = g.S.Source.graph c.args.source.now in
+    let law = g.met.S.Source.lawful c.args.source.now in
+    let xs = c.args.chosen.now in (
+      c.join_near.ensures.size ∙ c.loop-i.invariant.0,
+      c.join_near.ensures.drawn (paired G xs) (λ a b. law.both (get_or xs a 0) (get_or xs b 0)) (λ a. law.never (get_or xs a 0)) (λ j r h e. search (rules, tests)) c.loop-i.invariant.1,
+    )
 
 pub returns : goal.returns
 returns g c =

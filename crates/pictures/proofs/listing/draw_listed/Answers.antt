@@ -1,4 +1,5 @@
-use Rattle.std.proofs.Common.{◌≡◌, ℕ, length, get_or, ◌∙◌, subst, arith}
+use Rattle.std.proofs.Common.{◌≡◌, ℕ, length, get_or, ◌∙◌, subst, arith, rules, tests}
+use Rattle.stamps.specs.Near.{near}
 use Rattle.grids.specs.Draws.{Drawn}
 use Rattle.grids.proofs.Draws.{drawn_none, drawn_all}
 use Rattle.pictures.specs.Pictures.{joined, paired}
@@ -15,7 +16,7 @@ loop-i-preserved g c =
     let law = g.met.S.Source.lawful c.args.source.now in
     let xs = c.args.chosen.now in (
       c.join_near.ensures.size ∙ c.loop-i.invariant.0,
-      c.join_near.ensures.drawn (paired G xs) (λ a b. law.both (get_or xs a 0) (get_or xs b 0)) (λ a. law.never (get_or xs a 0)) (λ j. c.turn_to.ensures (get_or xs j 0)) c.loop-i.invariant.1,
+      c.join_near.ensures.drawn (paired G xs) (λ a b. law.both (get_or xs a 0) (get_or xs b 0)) (λ a. law.never (get_or xs a 0)) (λ j r h e. (let is : r ≡ near c.turn_to.new.self (get_or xs j 0) = search (rules, tests) in is ∙ c.turn_to.ensures (get_or xs j 0))) c.loop-i.invariant.1,
     )
 
 pub returns : goal.returns

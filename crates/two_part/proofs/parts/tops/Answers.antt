@@ -1,6 +1,24 @@
-use Rattle.two_part.proofs.Values.{tops_are}
+use Rattle.std.proofs.Common.{◌<◌, ◌∷◌, ◌++◌, [], List, ℕ, length, map, take, sym, ap, ◌∙◌, arith}
+use Rattle.std.proofs.lemmas.List.{map_more, take_all}
+use Rattle.grids.specs.Largest.{top}
+use Rattle.two_part.specs.TwoPart.{clique_degree}
+use Rattle.two_part.proofs.Values.{tops_are, tops_room}
 use Rattle.two_part.proofs.parts.tops.Goals as goal
+
+pub push-requires : goal.push-requires
+push-requires g c =
+    let room : length c.loop-class.tops.items < 64 = tops_room _ _ _ _ c.loop-class.invariant c.loop-class-test.true (omega (arith, ap length c.deref-class-items.ensures.0, c.classes-parted.ensures.bound)) in
+    (omega arith, room)
+
+pub loop-class-preserved : goal.loop-class-preserved
+loop-class-preserved g c =
+    let degree = clique_degree (g.B.Bound.answer c.args.bound.now) c.args.p.now c.args.other in
+    let xs = c.deref-class-items.result.now in
+    let i = c.loop-class.class-index in
+    c.push.ensures.items ∙ ap (λ (ts : List ℕ). ts ++ c.top.result ∷ []) c.loop-class.invariant ∙ ap (λ (t : ℕ). map (top degree) (take i xs) ++ t ∷ []) c.top.ensures ∙ sym (map_more (top degree) xs i 0 c.loop-class-test.true)
 
 pub returns : goal.returns
 returns g c =
-    tops_are (g.B.Bound.answer c.args.bound.now) c.args.p.now c.args.own c.args.other c.classes-parted.result.count c.loop-k.k c.classes-parted.result.masks c.loop-k.tops c.classes-parted.ensures.value c.classes-parted.ensures.len c.classes-parted.ensures.bound c.loop-k.invariant.0 c.loop-k-test.false c.loop-k.invariant.1
+    let degree = clique_degree (g.B.Bound.answer c.args.bound.now) c.args.p.now c.args.other in
+    let all = take_all c.loop-class.class-index c.deref-class-items.result.now c.loop-class-test.false in
+    tops_are (g.B.Bound.answer c.args.bound.now) c.args.p.now c.args.own c.args.other _ _ (c.deref-class-items.ensures.0 ∙ c.classes-parted.ensures.value) (c.loop-class.invariant ∙ ap (map (top degree)) all)
