@@ -21,4 +21,3 @@ pub record Explains {S B : Type 0} {gs : Ghosts S} (graph : S → Graph) (g : Gr
 abbrev pub Serves : {S B : Type 0} {gs : Ghosts S} → (S → Graph) → Planner S B gs → Call → Reply → Planner S B gs → Type 0
 Serves graph p c r q =
     (g : Graph) (h : History) → Explains graph g h p → Fair g (point_at g h) c r × Explains graph g (event c r ∷ h) q
-
