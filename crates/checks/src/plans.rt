@@ -64,7 +64,7 @@ fn all_clashing(heap: Global, k: u64) -> Result<Vec<u8>, Fail> {
             write_fields(&mut sheet, b'p', &[a, b])?;
         }
     }
-    write_fields::<u64>(&mut sheet, b'e', &[])?;
+    write_fields(&mut sheet, b'e', &[])?;
     Ok(sheet)
 }
 

@@ -5,7 +5,7 @@ ghost use Rattle.std.specs.Option.{option_map};
 ghost use Rattle.std.specs.Str.{all_ascii_digits};
 ghost use Rattle.fields.specs.Numerals.{Numeral, numeral, read_on};
 ghost use Rattle.fields.specs.Parts.{Cut};
-ghost use Rattle.fields.specs.Rows.{line_of};
+ghost use Rattle.fields.specs.Rows.{line_of, numbers_line};
 
 use itoa::Buffer;
 use std::alloc::AllocError;
@@ -85,7 +85,7 @@ impl Unsigned for usize {
 }
 
 // Writes a line: a letter, a tab before each number, and a line feed.
-pub fn write_fields<T: Unsigned>(
+pub fn write_numbers<T: Unsigned>(
     out: &mut Vec<u8>,
     letter: u8,
     numbers: &[T],
@@ -99,6 +99,13 @@ pub fn write_fields<T: Unsigned>(
     }
     out.push(b'\n')?;
     Ok(())
+}
+
+// The same for numbers of 64 bits.
+pub fn write_fields(out: &mut Vec<u8>, letter: u8, numbers: &[u64]) -> Result<(), AllocError>
+    ensures { OnOk result (out.new.items ≡ out.old.items ++ numbers_line letter numbers.now) }
+{
+    write_numbers(out, letter, numbers)
 }
 
 // What stands before the first separator, and what stands behind it if there is one.

@@ -8,7 +8,7 @@ ghost use Rattle.graph.specs.Refusals.{number};
 ghost use Rattle.lines.specs.Kept.{line_of, field_of};
 ghost use Rattle.printout.specs.Printed.{Answers, Prints, Replies, drive_lines, refusal};
 
-use fields::write_fields;
+use fields::write_numbers;
 use graph::refusal::Refusal;
 use lines::Fault;
 use sheets::load;
@@ -49,9 +49,9 @@ pub fn write_refusal(heap: Global, fault: &Fault) -> Result<Vec<u8>, AllocError>
             Some(place) => (place.line, place.field),
             None => (0, 0),
         };
-        write_fields(&mut out, b'x', &[code, line, field])?;
+        write_numbers(&mut out, b'x', &[code, line, field])?;
     } else {
-        write_fields(&mut out, b'x', &[code])?;
+        write_numbers(&mut out, b'x', &[code])?;
     }
     Ok(out)
 }
@@ -61,7 +61,7 @@ pub fn write_drives(out: &mut Vec<u8>, colours: &[u16]) -> Result<(), AllocError
     ensures { OnOk result (out.new.items ≡ out.old.items ++ drive_lines colours.now (length colours.now)) }
 {
     for (c, colour) in colours.iter().enumerate() {
-        write_fields(out, b'd', &[c, usize::from(*colour)])?;
+        write_numbers(out, b'd', &[c, usize::from(*colour)])?;
     }
     Ok(())
 }

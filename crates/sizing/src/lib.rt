@@ -8,7 +8,7 @@ ghost use Rattle.sizing.specs.Sized.{FormSized, Prints, printout};
 
 use bounds::ClassBound;
 use climb::climb_all;
-use fields::write_fields;
+use fields::write_numbers;
 use graph::Source;
 use graph::refusal::Refusal;
 use plan::{Planned, plan};
@@ -27,8 +27,8 @@ fn write_sizing(
 {
     let mut out = Vec::new(heap);
     let head = [planned.len, planned.degeneracy, block.len(), planned.drives];
-    write_fields(&mut out, b'n', &head)?;
-    write_fields(&mut out, b'k', block)?;
+    write_numbers(&mut out, b'n', &head)?;
+    write_numbers(&mut out, b'k', block)?;
     write_drives(&mut out, colours)?;
     Ok(out)
 }

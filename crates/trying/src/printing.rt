@@ -4,7 +4,7 @@ ghost use Rattle.printout.specs.Printed.{drive_lines};
 ghost use Rattle.trying.specs.Shown.{try_lines};
 
 use crate::settling::Trial;
-use fields::write_fields;
+use fields::write_numbers;
 use printout::write_drives;
 use std::alloc::{AllocError, Global};
 
@@ -14,9 +14,9 @@ fn write_tries(out: &mut Vec<u8>, first: usize, drives: usize) -> Result<(), All
     ensures { OnOk result (out.new.items ≡ out.old.items ++ try_lines first drives) }
 {
     for k in first..drives {
-        write_fields(out, b't', &[k, 0])?;
+        write_numbers(out, b't', &[k, 0])?;
     }
-    write_fields(out, b't', &[drives, 1])?;
+    write_numbers(out, b't', &[drives, 1])?;
     Ok(())
 }
 

@@ -7,7 +7,7 @@ ghost use Rattle.graph.specs.Edges.{edges_at, edge_list};
 ghost use Rattle.rows.specs.Rows.{listed, rows};
 ghost use Rattle.grammar.specs.Sheet.{row, written, edge_row};
 
-use fields::write_fields;
+use fields::write_numbers;
 use graph::Source;
 use graph::neighbours::Neighbours;
 use sources::list_form::ListForm;
@@ -17,7 +17,7 @@ use std::alloc::{AllocError, Global};
 fn write_line(out: &mut Vec<u8>, letter: u8, a: usize, b: usize) -> Result<(), AllocError>
     ensures { OnOk result (out.new.items ≡ out.old.items ++ row letter a b) }
 {
-    write_fields(out, letter, &[a, b])
+    write_numbers(out, letter, &[a, b])
 }
 
 // The clashes of `a` with its neighbours above it.

@@ -9,7 +9,7 @@ loop-c-init c = drives_none c.args.colours.now _
 
 pub loop-c-preserved : goal.loop-c-preserved
 loop-c-preserved c =
-    let e = c.in_ok-write_fields.ensures ∙ ap (λ (v : ℕ). vec_items c.loop-c.out ++ numbers_line 100 (c.loop-c.c ∷ v ∷ [])) c.from.ensures in
+    let e = c.in_ok-write_numbers.ensures ∙ ap (λ (v : ℕ). vec_items c.loop-c.out ++ numbers_line 100 (c.loop-c.c ∷ v ∷ [])) c.from.ensures in
     drives_more c.args.colours.now _ _ _ c.loop-c.c c.loop-c.invariant e
 
 pub returns : goal.returns

@@ -1,6 +1,6 @@
 use Rattle.std.proofs.Common.{ℕ, ◌∙◌, ap, ◌++◌, decimal}
 use Rattle.fields.proofs.Lines.{line_none, line_more, line_all}
-use Rattle.fields.proofs.write_fields.Goals as goal
+use Rattle.fields.proofs.write_numbers.Goals as goal
 
 pub loop-x-init : goal.loop-x-init
 loop-x-init g c = line_none g.T.Unsigned.value _
