@@ -1,5 +1,5 @@
 -- What is printed, case by case.
-use Rattle.std.proofs.Common.{◌≡◌, ℕ, ◌-◌, ◌≤◌, ◌⊎◌, List, [], ◌∷◌, ◌++◌, length, take, Result, Ok, Err, sym, ap, ◌∙◌, subst, inl, inr, arith}
+use Rattle.std.proofs.Common.{◌≡◌, ℕ, ◌≤◌, ◌⊎◌, List, [], ◌∷◌, ◌++◌, length, take, Result, Ok, Err, sym, ap, ◌∙◌, subst, inl, inr, arith}
 use Rattle.graph.specs.declared.refusal.Refusal.{Refusal}
 use Rattle.graph.specs.declared.refusal.Refusal.TheVariants.{TooDense, NoMemory}
 use Rattle.finite.proofs.Members.{length_members}
@@ -63,6 +63,3 @@ form_sized os ns before after paint painted kept block part out len d k n b z p 
       largest = record { set = w.set; largest = subst (LargestAmong (listed os ns) (held (listed os ns)) w.set) (sym c) w.largest; rising = g ∙ w.front };
       text = q;
     }
-
-pub front_is : (xs : List ℕ) (k : ℕ) → take (k - 0) xs ≡ take k xs
-front_is xs k = let z : k - 0 ≡ k = omega arith in ap (λ (i : ℕ). take i xs) z

@@ -43,8 +43,8 @@ fn size_form(heap: Global, form: &ListForm) -> Result<Vec<u8>, Refusal>
     let planned = plan(form, &mut order, &mut colours)?;
     let n = form.size();
     let held = planned.len;
-    let count = climb_all(form, &ClassBound {}, &order[0..held], &mut block)?;
-    let text = write_sizing(heap, planned, &block[0..count], &colours[0..n])?;
+    let count = climb_all(form, &ClassBound {}, &order[..held], &mut block)?;
+    let text = write_sizing(heap, planned, &block[..count], &colours[..n])?;
     Ok(text)
 }
 

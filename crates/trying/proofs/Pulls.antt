@@ -1,5 +1,5 @@
 -- What is left after peeling, listed and tried.
-use Rattle.std.proofs.Common.{◌≡◌, ℕ, ◌+◌, ◌-◌, ◌<◌, ◌≤◌, Bool, true, false, cond, List, [], ◌∷◌, ◌++◌, length, get_or, take, sym, refl, ap, ◌∙◌, subst, inl, inr, add-one, arith}
+use Rattle.std.proofs.Common.{◌≡◌, ℕ, ◌+◌, ◌<◌, ◌≤◌, Bool, true, false, cond, List, [], ◌∷◌, ◌++◌, length, get_or, take, sym, refl, ap, ◌∙◌, subst, inl, inr, add-one, arith}
 use Rattle.std.proofs.lemmas.List.{append-nil}
 use Rattle.std.proofs.lemmas.Bool.{both_ways, cases_lt, le-ltb}
 use Rattle.std.proofs.lemmas.Bool.Decides.{nat_tests}
@@ -92,9 +92,6 @@ block_number g block b h =
       reached = (h.set, record { clique = h.largest.clique; many = h.largest.many });
       most = λ K c. h.largest.most K c c.members;
     }
-
-pub front_is : (xs : List ℕ) (k : ℕ) → take (k - 0) xs ≡ take k xs
-front_is xs k = let z : k - 0 ≡ k = omega arith in ap (λ (i : ℕ). take i xs) z
 
 -- what was pulled, and drawn or too wide
 module _ (g : Graph) (t : ℕ) (living living' taken taken' list chosen : List ℕ) (gone n : ℕ) (h : CoreIn g t living living' taken taken' gone) (size : n ≡ g.size) (items : list ≡ members (alive n living') n) (part : chosen ≡ list) where

@@ -47,7 +47,7 @@ pub fn block_size<S: Listed>(source: &S) -> Result<usize, Refusal>
     let mut block = [0u16; 64];
     let ordered = removal_order(source, &mut order)?;
     let len = ordered.len;
-    let count = climb_all(source, &ClassBound {}, &order[0..len], &mut block)?;
+    let count = climb_all(source, &ClassBound {}, &order[..len], &mut block)?;
     Ok(count)
 }
 

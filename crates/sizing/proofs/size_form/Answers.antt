@@ -1,14 +1,13 @@
-use Rattle.std.proofs.Common.{◌≡◌, ℕ, ◌-◌, ◌≤◌, take, is_ok, vec_items, sym, refl, ap, ◌∙◌, subst, inl, arith}
+use Rattle.std.proofs.Common.{◌≤◌, is_ok, vec_items, sym, refl, ap, ◌∙◌, inl, arith}
 use Rattle.std.proofs.lemmas.List.{length-take-le}
 use Rattle.std.proofs.lemmas.Result.{err_from_is_err_and}
 use Rattle.std.proofs.lemmas.Bool.{false≢true}
 use Rattle.graph.specs.Graph.{held}
 use Rattle.rows.specs.Rows.{listed}
 use Rattle.rows.proofs.Props.{sound_of}
-use Rattle.degeneracy.specs.Order.{IsOrder, IsPeak}
 use Rattle.climbing.specs.Climbs.{BlockIn}
 use Rattle.climbing.proofs.Later.{order_once}
-use Rattle.sizing.proofs.Sizes.{plan_dense, form_sized, front_is}
+use Rattle.sizing.proofs.Sizes.{plan_dense, form_sized}
 use Rattle.sizing.proofs.size_form.Goals as goal
 use Rattle.sizing.proofs.size_form.Goals.{In_ok-count}
 
@@ -25,8 +24,7 @@ returns-in_err-count c =
     let q = p.0.ordered in
     let f = c.args.form.now in
     let g = listed (vec_items f.offsets) (vec_items f.neighbours) in
-    let e = front_is c.plan.new.order c.in_ok-planned.planned.len in
-    let yes-it = c.climb_all.ensures.succeeds c.in_ok-planned.planned.degeneracy (subst (IsOrder g) (sym e) q.order) (subst (λ xs. IsPeak g xs c.in_ok-planned.planned.degeneracy) (sym e) q.peak) p.1 in
+    let yes-it = c.climb_all.ensures.succeeds c.in_ok-planned.planned.degeneracy q.order q.peak p.1 in
     absurd (false≢true (sym (ap (λ r. is_ok r) c.in_err-count.was) ∙ yes-it))
 
 -- the block that was found
@@ -34,20 +32,21 @@ found : (c : In_ok-count) → BlockIn (listed (vec_items c.args.form.now.offsets
 found c =
     let f = c.args.form.now in
     let g = listed (vec_items f.offsets) (vec_items f.neighbours) in
-    let e = front_is c.plan.new.order c.in_ok-planned.planned.len in
-    c.in_ok-count.ensures.cases.2 (order_once g _ (subst (IsOrder g) (sym e) c.in_ok-planned.ensures.0.ordered.order))
+    c.in_ok-count.ensures.cases.2 (order_once g _ c.in_ok-planned.ensures.0.ordered.order)
 
 few : (c : In_ok-count) → c.in_ok-count.count ≤ 64
 few c = c.in_ok-count.ensures.cases.0
 
 pub slice_bounds-write_sizing-end : goal.slice_bounds-write_sizing-end
-slice_bounds-write_sizing-end c = let h = few (goal.at.slice_bounds-write_sizing-end c).In_ok-count in omega arith
+slice_bounds-write_sizing-end c = let h = few (goal.at.slice_bounds-write_sizing-end c).In_ok-count in
+    let l = length-take-le c.in_ok-count.count c.climb_all.new.block (omega arith) in omega arith
 
 pub slice_bounds-write_sizing-end-2 : goal.slice_bounds-write_sizing-end-2
 slice_bounds-write_sizing-end-2 c =
     let f = c.args.form.now in
     let small = (sound_of f.sound).small in
-    let z = c.size-n.ensures in omega arith
+    let z = c.size-n.ensures in
+    let l = length-take-le c.size-n.result c.plan.new.colours (omega arith) in omega arith
 
 pub returns : goal.returns
 returns c =
@@ -56,5 +55,4 @@ returns c =
     let small = (sound_of f.sound).small in
     let z = c.size-n.ensures in
     let p = c.in_ok-planned.ensures in
-    let e : n - 0 ≡ n = omega arith in
-    form_sized (vec_items f.offsets) (vec_items f.neighbours) _ _ _ c.plan.new.colours c.climb_all.new.block _ _ _ _ _ _ n c.in_ok-count.count z p.0 p.1 (found (goal.at.returns c).In_ok-count) (front_is c.climb_all.new.block c.in_ok-count.count) (ap (λ (i : ℕ). take i c.plan.new.colours) e) (length-take-le (n - 0) c.plan.new.colours (omega arith) ∙ e) c.in_ok-text.ensures
+    form_sized (vec_items f.offsets) (vec_items f.neighbours) _ _ _ c.plan.new.colours c.climb_all.new.block _ _ _ _ _ _ n c.in_ok-count.count z p.0 p.1 (found (goal.at.returns c).In_ok-count) refl refl (length-take-le n c.plan.new.colours (omega arith)) c.in_ok-text.ensures
