@@ -8,7 +8,6 @@ use Rattle.finite.specs.Finite.{count, has, members}
 use Rattle.finite.specs.Masks.{bit}
 use Rattle.finite.proofs.Counts.{has_none}
 use Rattle.finite.proofs.Masks.{bit_zero}
-use Rattle.finite.proofs.Members.{count_rise}
 use Rattle.graph.specs.Graph.{Graph, Lawful, held, clash}
 use Rattle.graph.specs.declared.refusal.Refusal.{Refusal}
 use Rattle.graph.proofs.Graphs.{clash_right}
@@ -71,10 +70,6 @@ block_no t block n c e z = e ∙ sym (members_no t c z)
 
 pub block_few : (q : List ℕ) (k v n : ℕ) → count (plus v (picked q k)) n ≤ length q + 1
 block_few q k v n = let a = plus_few (picked q k) v n in let b = picked_few q k n in omega arith
-
-pub block_here : (q : List ℕ) (k v c n : ℕ) → length q ≤ 63 → c < n → plus v (picked q k) c ≡ true → count (plus v (picked q k)) c < 64
-block_here q k v c n l h y =
-    let a = count_rise (plus v (picked q k)) c (c + 1) (omega arith) y in let b = block_few q k v (c + 1) in omega arith
 
 -- ---- nothing but the empty clique
 

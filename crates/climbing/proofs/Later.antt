@@ -1,6 +1,6 @@
 -- The later neighbours of the vertices of a list.
 use Rattle.std.proofs.Common.{◌≡◌, ℕ, zero, suc, ◌+◌, ◌-◌, ◌<◌, ◌≤◌, Bool, true, false, cond, ◌&&◌, ◌||◌, eqb, ◌⊎◌, List, [], ◌∷◌, ◌++◌, length, get_or, take, drop, sym, refl, ap, ◌∙◌, subst, inl, inr, arith, length-drop, drop-cons}
-use Rattle.std.proofs.lemmas.List.{append-nil, length_push, get_or-drop, drop-drop, get_or-take, length-take-le}
+use Rattle.std.proofs.lemmas.List.{append-nil, length_push, get_or-drop, get_or-take, length-take-le}
 use Rattle.std.proofs.lemmas.Bool.{cases_Bool, cases_eq, cases_lt, cases_order, both_ways, false≢true, eqb-true, and_parts, and_from}
 use Rattle.finite.specs.Finite.{count, has}
 use Rattle.finite.proofs.Counts.{has_push, has_true, has_at, push_before, push_here}
@@ -94,23 +94,6 @@ apart_backward t (x ∷ xs) a =
         let w = has_true xs x (and_parts (has xs x) (t x) (sym (has_backward t xs x) ∙ y)).0 in
         absurd (a 0 (suc w.0) (omega arith) (omega (arith, w.1)) (sym w.2))
     fresh (inr n) = n
-
-backward_le : (t : ℕ → Bool) (xs : List ℕ) (i : ℕ) → length (backward t (drop i xs)) ≤ length (backward t xs)
-backward_le t xs zero = omega arith
-backward_le t [] (suc i) = omega arith
-backward_le t (x ∷ xs) (suc i) =
-    let ih = backward_le t xs i in
-    elim (cases_Bool (t x)) [
-      | inl y ↦ let e = ap length (backward_yes t x xs y) in let n = length_push (backward t xs) x in omega arith
-      | inr n ↦ let e = ap length (backward_no t x xs n) in omega arith
-    ]
-
--- from further on there are no more
-pub backward_drop : (t : ℕ → Bool) (xs : List ℕ) (i j : ℕ) → j ≤ i → length (backward t (drop i xs)) ≤ length (backward t (drop j xs))
-backward_drop t xs i j h =
-    let e : j + (i - j) ≡ i = omega arith in
-    let d : drop (i - j) (drop j xs) ≡ drop i xs = drop-drop (i - j) j xs ∙ ap (λ (k : ℕ). drop k xs) e in
-    subst (λ (l : List ℕ). length (backward t l) ≤ length (backward t (drop j xs))) d (backward_le t (drop j xs) (i - j))
 
 pub later_has : (g : Graph) (p : List ℕ) (i c : ℕ) → has (later_list g p i) c ≡ later g p i c
 later_has g p i c = has_backward (clash g (get_or p i 0)) (drop (i + 1) p) c
