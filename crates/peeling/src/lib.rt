@@ -39,7 +39,8 @@ fn count_all<T, P: Peeled<T>>(
     }
 }
 
-// By hand: what goes together here is lent by three callers, some of it anew each time.
+// By hand: a caller makes some of these tables and is lent the others, and a struct of nine loans would be built for each
+// call.
 // Takes out items with a support below `least` until none is left. Whoever falls below it is queued in `taken`
 // behind those that are taken out already. Returns how many were taken out.
 fn drain<T, P: Peeled<T>>(

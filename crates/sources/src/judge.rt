@@ -70,7 +70,6 @@ fn bad_entry(offsets: &[u16], neighbours: &[u16]) -> Option<usize>
     ensures { MatchOption result (SoundEntries offsets.now neighbours.now) (FirstBadEntry offsets.now neighbours.now) }
 {
     let count = offsets.len() - 1;
-    // By hand: `find_map` was tried, and its proof did not close.
     for c in 0..count {
         if let Some(k) = bad_in_row(offsets, neighbours, c) {
             return Some(k);
