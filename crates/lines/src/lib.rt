@@ -136,11 +136,14 @@ fn read_two<'a>(rest: Option<&'a [u8]>, at: usize) -> Result<Two<'a>, Fault<'a>>
 fn kind(field: &[u8]) -> Kind
     ensures { result ≡ kind_of field.now }
 {
-    match field {
-        [b's'] => Kind::Size,
-        [b'p'] => Kind::Clash,
-        [b'r'] => Kind::Remark,
-        [b'e'] => Kind::End,
+    let [letter] = field else {
+        return Kind::Other;
+    };
+    match *letter as char {
+        's' => Kind::Size,
+        'p' => Kind::Clash,
+        'r' => Kind::Remark,
+        'e' => Kind::End,
         _ => Kind::Other,
     }
 }
