@@ -58,7 +58,7 @@ def sentinels():
 
 
 def codes():
-    return matching(r"\bfn number\(&self\)") + matching(r"fn \w+_stand\(\) -> u8")
+    return matching(r"\bfn number\(&self\)") + matching(r"fn \w*stands?\(\) -> u8")
 
 
 def unpacked():

@@ -30,9 +30,7 @@ impl<'a, S: Source, B: Bound> Terrain for AskedTerrain<'a, S, B> {
     }
 
     fn reaching(&self, chosen: &[u16], len: usize) -> Option<u64> {
-        let Ok(picture) = draw(self.source, chosen) else {
-            return None;
-        };
+        let picture = draw(self.source, chosen).unwrap();
         let found = largest(
             self.bound,
             &picture,

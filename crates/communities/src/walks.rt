@@ -145,10 +145,9 @@ pub fn chain(list: &[Edge], n: usize, table: &mut [u16])
     ensures { Chained n list.now table.new }
 {
     table[..n].fill(0);
-    // By hand: j is a place of the table too.
-    for j in 0..list.len() {
-        let a = list[j].a as usize;
-        let b = list[j].b as usize;
+    for (j, edge) in list.iter().enumerate() {
+        let a = edge.a as usize;
+        let b = edge.b as usize;
         table[1024 + j] = table[a];
         table[17408 + j] = table[b];
         table[a] = j as u16 + 1;

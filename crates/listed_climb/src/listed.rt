@@ -32,9 +32,7 @@ impl<'a, S: Listed, B: Bound> Terrain for ListedTerrain<'a, S, B> {
     }
 
     fn reaching(&self, chosen: &[u16], len: usize) -> Option<u64> {
-        let Ok(picture) = draw_listed(self.source, chosen) else {
-            return None;
-        };
+        let picture = draw_listed(self.source, chosen).unwrap();
         at_least(self.bound, &picture, below(chosen.len()), len)
     }
 }

@@ -65,9 +65,7 @@ pub(crate) fn climb_tail<S: Listed, B: Bound>(
     let Some(chosen) = gather::<64, _>(&order[start..], |_| true) else {
         return 0;
     };
-    let Ok(picture) = draw_listed(source, &chosen) else {
-        return 0;
-    };
+    let picture = draw_listed(source, &chosen).unwrap();
     let mask = climb_picture(bound, &picture).mask;
     write_block(block, source.size(), &picked_table(&chosen, mask))
 }

@@ -1,6 +1,7 @@
 use Rattle.std.proofs.Common.{◌≡◌, ℕ, ◌-◌, ◌<◌, ◌≤◌, Bool, true, false, List, length, get_or, take, drop, ap, ◌∙◌, arith, rules, tests, length-drop}
 use Rattle.std.proofs.lemmas.List.{take_all}
 use Rattle.finite.specs.Finite.{count, members}
+use Rattle.pictures.specs.Pictures.{Draws}
 use Rattle.climbing.specs.Climbs.{backward, picked}
 use Rattle.climbing.proofs.Tails.{backward_short, table_few, tail_climbed}
 use Rattle.listed_climb.proofs.tail.climb_tail.Given as given
@@ -48,6 +49,7 @@ pub returns-clause-block : goal.returns-clause-block
 returns-clause-block g c once =
     let a = (goal.at.returns-clause-block g c).After-picked_table in
     let t : ℕ → Bool = λ x. get_or c.picked_table.result x false in
-    tail_climbed (g.S.Source.graph c.args.source.now) c.args.order.now c.in-Some.chosen.items c.args.start (written g a) c.requires.within c.in-Ok.picture (rw c.deref.ensures.0 at c.in-Ok.ensures) once
+    let d : Draws (g.S.Source.graph c.args.source.now) c.deref.result.now c.unwrap-picture.result = search rules in
+    tail_climbed (g.S.Source.graph c.args.source.now) c.args.order.now c.in-Some.chosen.items c.args.start (written g a) c.requires.within c.unwrap-picture.result (rw c.deref.ensures.0 at d) once
     c.climb_picture-mask.result.mask c.climb_picture-mask.result.len c.write_block.result c.write_block.new.block t c.climb_picture-mask.ensures (marked g a)
     (c.write_block.ensures.len ∙ ap (count t) c.size.ensures) (c.write_block.ensures.items ∙ ap (members t) c.size.ensures)
