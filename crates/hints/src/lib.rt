@@ -19,6 +19,15 @@ pub struct Hints {
     blank: Row,
 }
 
+// What a place is chosen by: the tied places, how many colours are in use, and how many there may be.
+#[derive(Clone, Copy)]
+struct Choosing<'a> {
+    kernel: &'a Kernel,
+    tied: Row,
+    used: usize,
+    k: usize,
+}
+
 // A place, and how keenly it wants a colour.
 #[derive(Clone, Copy)]
 struct Choice {
@@ -134,12 +143,18 @@ impl Hints {
 
     // How keenly `c` wants a colour: by the colours, up to `k`, that it has left in common with the tied places that are
     // joined to it, and then by its neighbours without a colour.
-    fn score(&self, kernel: &Kernel, tied: &Row, c: usize, used: usize, k: usize) -> u32
+    fn score(&self, choosing: &Choosing, c: usize) -> u32
         requires { c < 256 }
     {
+        let Choosing {
+            kernel,
+            used,
+            k,
+            ..
+        } = *choosing;
         let unused = k.saturating_sub(used).min(256) as u32;
         let mut total = 0u32;
-        for (w, word) in tied.iter().enumerate() {
+        for (w, word) in choosing.tied.iter().enumerate() {
             let row = kernel.word(c, w);
             total = total.saturating_add(size(row & self.blank[w]));
             let joined = row & *word;
@@ -153,21 +168,13 @@ impl Hints {
     }
 
     // The first place with the highest score: one of the tied places of the word `w`, or the one that was best so far.
-    fn keenest(
-        &self,
-        kernel: &Kernel,
-        tied: &Row,
-        w: usize,
-        used: usize,
-        k: usize,
-        so_far: Option<Choice>,
-    ) -> Option<Choice>
+    fn keenest(&self, choosing: &Choosing, w: usize, so_far: Option<Choice>) -> Option<Choice>
         requires { w < 4 }
     {
         let mut best = so_far;
-        for j in Members::of(tied[w]) {
+        for j in Members::of(choosing.tied[w]) {
             let place = 64 * w + j;
-            let score = self.score(kernel, tied, place, used, k);
+            let score = self.score(choosing, place);
             if best.is_none_or(|b| score > b.score) {
                 best = Some(Choice { place, score });
             }
@@ -185,9 +192,15 @@ impl Hints {
     // The place without a colour that has the most colours around it, of those the first with the highest score.
     pub fn keenest_taken(&self, kernel: &Kernel, used: usize, k: usize) -> Option<usize> {
         let tied = self.tied(used);
+        let choosing = Choosing {
+            kernel,
+            tied,
+            used,
+            k,
+        };
         let mut best = None;
         for w in 0..4 {
-            best = self.keenest(kernel, &tied, w, used, k, best);
+            best = self.keenest(&choosing, w, best);
         }
         best.map(|b| b.place)
     }
