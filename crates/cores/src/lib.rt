@@ -10,6 +10,10 @@ use graph::{Listed, Source};
 use items::vertices::Vertex;
 use peeling::peel;
 
+mod living;
+
+pub use living::list_living;
+
 // Writes 1 at each vertex, and 0 at each other number below n.
 fn fill_held<S: Source>(source: &S, living: &mut [u8])
     requires { (S.Source.graph source.now).size ≤ length living.old }

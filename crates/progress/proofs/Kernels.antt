@@ -2,9 +2,9 @@
 use Rattle.std.proofs.Common.{◌≡◌, ℕ, zero, suc, ◌+◌, ◌-◌, ◌<◌, ◌≤◌, max, Bool, true, false, cond, not, ◌&&◌, eqb, List, [], ◌∷◌, length, get_or, take, replicate, Some, None, Option, sym, refl, ap, ◌∙◌, subst, inl, inr, arith}
 use mathlib.Core.Path.{fun_ext}
 use Rattle.std.proofs.lemmas.Bool.{false≢true, eqb-true, eqb-false, cases_lt, cases_Bool, lt-ltb, le-ltb}
-use Rattle.finite.specs.Finite.{count, members, has, nth}
+use Rattle.finite.specs.Finite.{count, members, has}
 use Rattle.finite.proofs.Counts.{has_true}
-use Rattle.finite.proofs.Members.{length_members, members_some, members_at, count_rise}
+use Rattle.finite.proofs.Members.{length_members, members_some, members_at, count_rise, nth_in}
 use Rattle.graph.specs.Graph.{Graph, Lawful, held}
 use Rattle.graph.specs.Colourings.{Coloured, ColourableIn, Colourable, used}
 use Rattle.graph.specs.Degeneracy.{CoreOf}
@@ -34,23 +34,18 @@ use Rattle.progress.specs.declared.state.Progress.{Progress}
 use Rattle.progress.specs.Holds.{Holds, Found, Out, NewPlan, paint}
 
 -- the rising list of a set lists it
-nth_is : (xs : List ℕ) (i : ℕ) → i < length xs → nth xs i ≡ Some (get_or xs i 0)
-nth_is [] i l = absurd (omega arith)
-nth_is (x ∷ xs) zero l = refl
-nth_is (x ∷ xs) (suc i) l = nth_is xs i (omega arith)
-
 some_one : (a b : ℕ) → ◌≡◌ {A = Option ℕ} (Some a) (Some b) → a ≡ b
 some_one a b e = ap (λ (o : Option ℕ). elim o [ Some v ↦ v | None ↦ 0 ]) e
 
 pub lists_members : (s : ℕ → Bool) (n : ℕ) → ((c : ℕ) → s c ≡ true → c < n) → Lists s (members s n)
 lists_members s n below =
     let xs = members s n in
-    let at : (i : ℕ) → i < length xs → (get_or xs i 0 < n) × (s (get_or xs i 0) ≡ true) × (count s (get_or xs i 0) ≡ i) = λ i l. members_some s n i (get_or xs i 0) (nth_is xs i l) in
+    let at : (i : ℕ) → i < length xs → (get_or xs i 0 < n) × (s (get_or xs i 0) ≡ true) × (count s (get_or xs i 0) ≡ i) = λ i l. members_some s n i (get_or xs i 0) (nth_in xs i l) in
     record {
       only = λ i l. (at i l).1;
       all = λ c y.
           let l : count s c < length xs = omega (arith, length_members s n, count_rise s c n (below c y) y) in
-          (count s c, l, some_one (get_or xs (count s c) 0) c (sym (nth_is xs (count s c) l) ∙ members_at s n c (count s c) (below c y) y refl));
+          (count s c, l, some_one (get_or xs (count s c) 0) c (sym (nth_in xs (count s c) l) ∙ members_at s n c (count s c) (below c y) y refl));
       once = λ i j l m e. sym (at i l).2 ∙ ap (count s) e ∙ (at j m).2;
     }
 

@@ -1,6 +1,5 @@
 -- What is left after peeling, listed and tried.
-use Rattle.std.proofs.Common.{◌≡◌, ℕ, ◌+◌, ◌<◌, ◌≤◌, Bool, true, false, cond, List, [], ◌∷◌, ◌++◌, length, get_or, take, sym, refl, ap, ◌∙◌, subst, inl, inr, add-one, arith}
-use Rattle.std.proofs.lemmas.List.{append-nil}
+use Rattle.std.proofs.Common.{◌≡◌, ℕ, ◌+◌, ◌<◌, ◌≤◌, Bool, true, List, length, get_or, take, sym, refl, ap, ◌∙◌, subst, inl, inr, arith}
 use Rattle.std.proofs.lemmas.Bool.{both_ways, cases_lt, le-ltb}
 use Rattle.std.proofs.lemmas.Bool.Decides.{nat_tests}
 use Rattle.finite.specs.Finite.{count, members}
@@ -32,21 +31,6 @@ plenty n E k l none =
       high = λ i h. omega arith;
       apart = λ i j h m y e. let z : i ≡ j = omega arith in both_ways (E i j) (ap (E i) (sym z) ∙ none i h) y;
     }
-
--- the members of a set below one number more
-pub members_yes : (t : ℕ → Bool) (c : ℕ) (xs new : List ℕ) → xs ≡ members t c → t c ≡ true → new ≡ xs ++ c ∷ [] → new ≡ members t (c + 1)
-unfolding members
-members_yes t c xs new e y f =
-    f ∙ ap (λ zs. zs ++ c ∷ []) e ∙ sym (ap (members t) (add-one c) ∙ ap (λ (b : Bool). members t c ++ cond b (c ∷ []) []) y)
-
-pub members_no : (t : ℕ → Bool) (c : ℕ) (xs : List ℕ) → xs ≡ members t c → t c ≡ false → xs ≡ members t (c + 1)
-unfolding members
-members_no t c xs e z =
-    e ∙ sym (ap (members t) (add-one c) ∙ ap (λ (b : Bool). members t c ++ cond b (c ∷ []) []) z ∙ append-nil (members t c))
-
-pub members_none : (t : ℕ → Bool) → [] ≡ members t 0
-unfolding members
-members_none t = refl
 
 -- the members of a set, listed
 pub members_list : (s : ℕ → Bool) (n : ℕ) → ((c : ℕ) → s c ≡ true → c < n) → Lists s (members s n)

@@ -10,7 +10,7 @@ ghost use Rattle.trying.specs.Trying.{PulledIn, Wide};
 use arrayvec::ArrayVec;
 use bounds::ClassBound;
 use climb::climb_all;
-use cores::core;
+use cores::{core, list_living};
 use graph::refusal::Refusal;
 use graph::{Listed, Source};
 use kernels::Kernel;
@@ -22,21 +22,6 @@ use order::removal_order;
 pub struct Pulled {
     pub chosen: ArrayVec<u16, 1024>,
     pub gone: usize,
-}
-
-// The numbers below n whose byte is 1, rising.
-fn list_living(living: &[u8], n: usize) -> ArrayVec<u16, 1024>
-    requires small { n ≤ 1024 }
-    requires fits { n ≤ length living.now }
-    ensures { result.items ≡ members (alive n living.now) n }
-{
-    let mut list = ArrayVec::new();
-    for (c, life) in living[..n].iter().enumerate() {
-        if *life == 1 {
-            list.push(c as u16);
-        }
-    }
-    list
 }
 
 /// The size of a largest clique.
@@ -62,7 +47,7 @@ pub fn pull<S: Listed>(
 {
     let mut living = [0u8; 1024];
     let gone = core(source, least, &mut living, taken)?;
-    let chosen = list_living(&living, source.size());
+    let chosen = list_living::<1024>(&living, source.size()).unwrap();
     kernel.draw(source, chosen.as_slice())?;
     Ok(Pulled { chosen, gone })
 }

@@ -8,26 +8,10 @@ ghost use Rattle.supports.specs.Peel.{alive};
 
 use super::Progress;
 use super::fronts::front;
-use arrayvec::ArrayVec;
 use calls::standing::Standing;
-use cores::core;
+use cores::{core, list_living};
 use graph::refusal::Refusal;
 use graph::{Listed, Source};
-
-// Those of the first n numbers that live, rising: `None` if they are more than 256.
-fn list_living(living: &[u8], n: usize) -> Option<ArrayVec<u16, 256>>
-    requires lives { n ≤ length living.now }
-    requires few { n ≤ 1024 }
-    ensures { MatchOption result (256 < count (alive n living.now) n) (λ v. v.items ≡ members (alive n living.now) n) }
-{
-    let mut places = ArrayVec::new();
-    for (c, lives) in living[..n].iter().enumerate() {
-        if *lives == 1 {
-            places.try_push(c as u16).ok()?;
-        }
-    }
-    Some(places)
-}
 
 impl Progress {
     /// Peels the graph at the size of the block: the core that stays is the kernel. Refused where it has more than
