@@ -58,7 +58,17 @@ fn fewest(alive: &[bool], left: &[usize], n: usize) -> Option<usize>
     requires { (n ≤ length alive.now) × (n ≤ length left.now) }
     ensures { MatchOption result ((c : ℕ) → c < n → slice_index_or alive.now c false ≡ false) (λ x. Fewest (λ c. slice_index_or alive.now c false) (λ c. slice_index left.now c) n x) }
 {
-    (0..n).filter(|c| alive[*c]).min_by_key(|c| left[*c])
+    let mut best = None;
+    // By hand: a filter with `min_by_key` took more steps, and the order asks for the fewest once for each vertex.
+    for c in 0..n {
+        if alive[c] {
+            best = match best {
+                Some(b) if left[b] <= left[c] => Some(b),
+                _ => Some(c),
+            };
+        }
+    }
+    best
 }
 
 // Takes x from the counts: each neighbour of x has one fewer.
