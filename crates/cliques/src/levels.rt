@@ -13,13 +13,14 @@ struct Level {
 }
 
 // A largest clique inside `mask`, if it has more than `size` members. Places beyond the picture's count are passed over.
+// By hand: the levels are a table with a height, since a vector's `pop` writes a blank level at each turn, and the search
+// took half as many steps again.
 pub fn search<R: Branching>(rule: &R, p: &Picture, mask: u64, size: usize) -> Option<u64>
     ensures { Answers p.now mask size result }
 {
     let mut best = None;
     let mut most = size;
     let spare = meet(mask, below(p.count()));
-    // By hand: a vector's `pop` writes a blank level at each turn, and the search took half as many steps again.
     let mut stack = [Level::default(); 65];
     stack[0] = Level {
         picked: 0,
