@@ -29,6 +29,7 @@ fn digits(field: &[u8]) -> Option<u32>
 }
 
 // The number whose numeral the field is.
+// By hand: `parse` takes a sign and leading zeros, and asks for text where the field is bytes.
 pub fn number(field: &[u8]) -> Option<u32>
     ensures value { result ≡ numeral field.now }
     ensures cases { MatchOption result ((v : ℕ) → Numeral field.now v → ⊥) (λ v. Numeral field.now v) }

@@ -20,6 +20,7 @@ use listed::ListedTerrain;
 use tail::climb_tail;
 
 // A largest clique inside `mask`, if it has `len` members or more.
+// By hand: `climb` has the same lines around the search that asks the bound alone.
 fn at_least<B: Bound>(bound: &B, p: &Picture, mask: u64, len: usize) -> Option<u64>
     ensures { Reaches p.now mask len result }
 {

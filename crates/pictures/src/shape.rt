@@ -5,6 +5,7 @@ mod edits;
 mod reads;
 
 // A graph on the places below `count`: row `i` is the mask of the neighbours of `i`.
+// By hand: one type for rows of any number of words would make each mask of the search an array of one word.
 #[derive(Drop)]
 pub struct Picture {
     count: usize,
