@@ -11,7 +11,6 @@ ghost use Rattle.order.specs.Order.{OrderedIn, OrderRefused};
 use graph::neighbours::Neighbours;
 use graph::refusal::Refusal;
 use graph::{Listed, Source};
-use std::array;
 
 /// The largest degeneracy that is taken.
 pub const DENSEST: usize = 63;
@@ -39,18 +38,26 @@ pub fn vertex_count<S: Source>(source: &S) -> usize
     (0..source.size()).filter(|c| source.holds(*c)).count()
 }
 
-// At each number, whether it is a vertex.
+// At each number below the size, whether it is a vertex.
 fn living<S: Source>(source: &S) -> [bool; 1024]
-    ensures { (c : ℕ) → c < 1024 → slice_index_or result c false ≡ held (S.Source.graph source.now) c }
+    ensures { (c : ℕ) → c < (S.Source.graph source.now).size → slice_index_or result c false ≡ held (S.Source.graph source.now) c }
 {
-    array::from_fn(|c| source.holds(c))
+    let mut alive = [false; 1024];
+    for (c, lives) in alive[..source.size()].iter_mut().enumerate() {
+        *lives = source.holds(c);
+    }
+    alive
 }
 
-// At each number, how many neighbours it has.
+// At each number below the size, how many neighbours it has.
 fn degrees<S: Listed>(source: &S) -> [usize; 1024]
-    ensures { (c : ℕ) → c < 1024 → slice_index result c ≡ degree (S.Source.graph source.now) c }
+    ensures { (c : ℕ) → c < (S.Source.graph source.now).size → slice_index result c ≡ degree (S.Source.graph source.now) c }
 {
-    array::from_fn(|c| source.degree(c))
+    let mut left = [0; 1024];
+    for (c, with) in left[..source.size()].iter_mut().enumerate() {
+        *with = source.degree(c);
+    }
+    left
 }
 
 // The living number below n with the least in `left`, the lowest of those.

@@ -1,7 +1,12 @@
-use Rattle.std.proofs.Common.{arith, rules, tests}
-use Rattle.finite.proofs.Tables.{made_at}
-use Rattle.graph.specs.Graph.{degree}
+use Rattle.std.proofs.Common.{◌≡◌, ◌<◌, ◌≤◌, length, ◌∙◌, arith, rules}
+use Rattle.std.proofs.lemmas.List.{length-take-le, length-replicate, get_or_append_left}
 use Rattle.order.proofs.degrees.Goals as goal
 
 pub returns : goal.returns
-returns g c = λ k l. made_at _ _ (degree (g.S.Source.graph c.args.source.now)) c.from_fn.result 1024 0 c.from_fn.ensures.items.each (λ x y q w. search (rules, tests)) k (omega arith) (omega arith) 0
+returns g c = λ k l.
+    let lw = g.met.S.Source.lawful c.args.source.now in
+    let small : c.size.result ≤ 1024 = omega (arith, lw.small, c.size.ensures) in
+    let all : length c.loop-c.with-items ≡ c.size.result = search (rules, length-take-le, length-replicate) in
+    let end : c.loop-c.c ≡ c.size.result = search (rules, length-take-le, length-replicate) in
+    let within : k < length c.loop-c.with-items = omega (arith, l, all, c.size.ensures) in
+    get_or_append_left c.loop-c.with-items _ 0 k within ∙ c.loop-c.invariant k (omega (arith, l, end, c.size.ensures))
