@@ -6,7 +6,7 @@ ghost use Rattle.fields.specs.Numerals.{numeral};
 ghost use Rattle.graph.specs.declared.refusal.Refusal.TheVariants.{NoMemory};
 ghost use Rattle.grammar.specs.Lines.{kind_of};
 ghost use Rattle.lines.specs.Rest.{Next, fields_of, count_of};
-ghost use Rattle.lines.specs.Kept.{Unplaced, IsAt, IsFault, Figured, TwoKept, TwoFault, Kept, LineFault};
+ghost use Rattle.lines.specs.Kept.{Unplaced, IsAt, IsFault, Figured, TwoKept, TwoFault, Kept, LineFault, line_of, field_of, shown_of};
 
 use fields::{Piece, cut, number};
 use grammar::Kind;
@@ -60,6 +60,36 @@ impl<'a> Fault<'a> {
         Fault {
             refusal,
             place: Some(Place { line, field, shown }),
+        }
+    }
+
+    // The line at fault, 0 where there is none.
+    pub fn line(&self) -> usize
+        ensures { result ≡ line_of self.now.place }
+    {
+        match self.place {
+            Some(place) => place.line,
+            None => 0,
+        }
+    }
+
+    // The field at fault, 0 where there is none.
+    pub fn field(&self) -> usize
+        ensures { result ≡ field_of self.now.place }
+    {
+        match self.place {
+            Some(place) => place.field,
+            None => 0,
+        }
+    }
+
+    // The bytes of the field at fault, none where there is no field.
+    pub fn shown(&self) -> &'a [u8]
+        ensures { result.now ≡ shown_of self.now.place }
+    {
+        match self.place {
+            Some(place) => place.shown,
+            None => &[],
         }
     }
 }

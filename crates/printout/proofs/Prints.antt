@@ -9,14 +9,15 @@ use Rattle.graph.specs.Edges.{edge_list}
 use Rattle.rows.specs.Rows.{listed, rows}
 use Rattle.graph.specs.Refusals.{number}
 use Rattle.fields.specs.Rows.{numbers_line}
-use Rattle.grammar.specs.Sheet.{outcome, written}
+use Rattle.graph.specs.declared.edge.Edge.{Edge}
+use Rattle.grammar.specs.Sheet.{Outcome, outcome, states, fault, written}
 use Rattle.grammar.proofs.Forth.{reads_states}
 use Rattle.lines.specs.declared.Fault.{Fault}
 use Rattle.lines.specs.Kept.{line_of, field_of, Unplaced}
 use Rattle.sheets.specs.Loaded.{Loaded, Rewritten}
 use Rattle.sheets.proofs.Stocks.{rewrites}
 use Rattle.sources.specs.declared.list_form.ListForm.{ListForm}
-use Rattle.printout.specs.Printed.{Answers, Prints, drive_lines, refusal, told, printed}
+use Rattle.printout.specs.Printed.{Answers, Prints, Rewrites, drive_lines, refusal, told, printed}
 
 pub clean_printed : (s t : List ℕ) → length s ≤ 65536 → Rewritten s t → t ≡ printed s
 clean_printed s t l w =
@@ -64,6 +65,25 @@ prints_clean text returns s out f g (inr (inr (l, inl u))) =
 prints_clean text returns s out f g (inr (inr (l, inr w))) =
     elim w.answer [
       | inl u ↦ inl (u.2 ∙ clean_printed s (text u.0) l (rewrites s _ _ (text u.0) w.stock (f w.form u.0 u.1)))
+      | inr u ↦ inr (u.2 ∙ ap (λ (y : Refusal). refusal (number y) 0 0) (g w.form u.0 u.1))
+    ]
+
+-- what states a stock is no fault
+abbrev stated : Outcome → Type 0
+stated (states n es) = Unit
+stated (fault x k j shown) = ⊥
+
+stated_fault : {n x k j : ℕ} {es : List Edge} {shown : List ℕ} → states n es ≡ fault x k j shown → ⊥
+stated_fault e = subst stated e tt
+
+-- where the stock is written as a sheet, a good sheet is written back
+pub rewrites_clean : {V : Type 0} (text : V → List ℕ) (returns : ListForm → Result V Refusal → Type 0) (s out : List ℕ) → ((form : ListForm) (v : V) → returns form (Ok v) → text v ≡ written (rows form.offsets.items) (edge_list (listed form.offsets.items form.neighbours.items))) → ((form : ListForm) (x : Refusal) → returns form (Err x) → x ≡ NoMemory) → Answers text returns s out → Rewrites s out
+rewrites_clean text returns s out f g (inl u) = λ l n es o. absurd (omega (arith, l, u.1))
+rewrites_clean text returns s out f g (inr (inl u)) = λ l n es o. inr u.0
+rewrites_clean text returns s out f g (inr (inr (_, inl u))) = λ l n es o. absurd (stated_fault (sym o ∙ u.4))
+rewrites_clean text returns s out f g (inr (inr (_, inr w))) = λ l n es o.
+    elim w.answer [
+      | inl u ↦ inl (subst (Rewritten s) (sym u.2) (rewrites s _ _ (text u.0) w.stock (f w.form u.0 u.1)))
       | inr u ↦ inr (u.2 ∙ ap (λ (y : Refusal). refusal (number y) 0 0) (g w.form u.0 u.1))
     ]
 

@@ -3,10 +3,11 @@ use Rattle.std.specs.Prelude.{◌≡◌, ℕ, zero, suc, ◌<◌, ◌≤◌, con
 use Rattle.std.specs.Io.KnownBytes.{Appends}
 use Rattle.std.specs.declared.alloc.AllocError.{AllocError}
 use Rattle.fields.specs.Rows.{numbers_line}
+use Rattle.graph.specs.declared.edge.Edge.{Edge}
 use Rattle.graph.specs.declared.refusal.Refusal.{Refusal}
 use Rattle.graph.specs.Refusals.{number}
 use Rattle.grammar.specs.Sheet.{Outcome, states, fault, outcome, written}
-use Rattle.sheets.specs.Loaded.{Loaded}
+use Rattle.sheets.specs.Loaded.{Loaded, Rewritten}
 use Rattle.sources.specs.declared.list_form.ListForm.{ListForm}
 
 -- the letter x and the number, and for 9 the line and the field
@@ -25,6 +26,10 @@ printed s = cond (nat_lt 65536 (length s)) (refusal 7 0 0) (told (outcome s))
 -- what is printed, also where memory is wanting
 abbrev pub Prints : List ℕ → List ℕ → Type 0
 Prints s out = (out ≡ printed s) ⊎ (out ≡ refusal 99 0 0)
+
+-- a good sheet that is not too long is read and written back, also where memory is wanting
+abbrev pub Rewrites : List ℕ → List ℕ → Type 0
+Rewrites s out = length s ≤ 65536 → (n : ℕ) (es : List Edge) → outcome s ≡ states n es → Rewritten s out ⊎ (out ≡ refusal 99 0 0)
 
 -- the letter d with a cartridge and its drive, for each number below n
 unfoldable pub drive_lines : List ℕ → ℕ → List ℕ

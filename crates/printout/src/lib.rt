@@ -6,7 +6,7 @@ ghost use Rattle.std.specs.Vec.{vec_items};
 ghost use Rattle.std.specs.Fn.{FnOnceReturnsAt};
 ghost use Rattle.graph.specs.Refusals.{number};
 ghost use Rattle.lines.specs.Kept.{line_of, field_of};
-ghost use Rattle.printout.specs.Printed.{Answers, Prints, Replies, drive_lines, refusal};
+ghost use Rattle.printout.specs.Printed.{Answers, Prints, Replies, Rewrites, drive_lines, refusal};
 
 use fields::write_numbers;
 use graph::refusal::Refusal;
@@ -45,11 +45,7 @@ pub fn write_refusal(heap: Global, fault: &Fault) -> Result<Vec<u8>, AllocError>
     let mut out = Vec::new(heap);
     let code = usize::from(u8::from(fault.refusal));
     if fault.refusal == Refusal::BadLine {
-        let (line, field) = match fault.place {
-            Some(place) => (place.line, place.field),
-            None => (0, 0),
-        };
-        write_numbers(&mut out, b'x', &[code, line, field])?;
+        write_numbers(&mut out, b'x', &[code, fault.line(), fault.field()])?;
     } else {
         write_numbers(&mut out, b'x', &[code])?;
     }
@@ -83,7 +79,8 @@ pub fn print_stock<F: FnOnce(&ListForm) -> Result<Vec<u8>, Refusal>>(
 
 /// The whole printout for what was read: the stock as a clean sheet, or the line of a refusal.
 pub fn clean_sheet(heap: Global, input: &[u8]) -> Result<Vec<u8>, AllocError>
-    ensures { IfOk result (λ v. Prints input.now v.items) }
+    ensures value { IfOk result (λ v. Prints input.now v.items) }
+    ensures same { IfOk result (λ v. Rewrites input.now v.items) }
 {
     print_stock(heap, input, |form| Ok(write(heap, form)?))
 }
