@@ -38,30 +38,28 @@ pub fn vertex_count<S: Source>(source: &S) -> usize
     (0..source.size()).filter(|c| source.holds(*c)).count()
 }
 
-// At each number below the size, whether it is a vertex.
-fn living<S: Source>(source: &S) -> [bool; 1024]
-    ensures { (c : ℕ) → c < (S.Source.graph source.now).size → slice_index_or result c false ≡ held (S.Source.graph source.now) c }
+// Writes at each number whether it is a vertex.
+fn fill_alive<S: Source>(source: &S, alive: &mut [bool])
+    requires { (S.Source.graph source.now).size ≤ length alive.old }
+    ensures { (c : ℕ) → c < (S.Source.graph source.now).size → slice_index_or alive.new c false ≡ held (S.Source.graph source.now) c }
 {
-    let mut alive = [false; 1024];
     for (c, lives) in alive[..source.size()].iter_mut().enumerate() {
         *lives = source.holds(c);
     }
-    alive
 }
 
-// At each number below the size, how many neighbours it has.
-fn degrees<S: Listed>(source: &S) -> [usize; 1024]
-    ensures { (c : ℕ) → c < (S.Source.graph source.now).size → slice_index result c ≡ degree (S.Source.graph source.now) c }
+// Writes at each number how many neighbours it has.
+fn fill_degrees<S: Listed>(source: &S, left: &mut [u16])
+    requires { (S.Source.graph source.now).size ≤ length left.old }
+    ensures { (c : ℕ) → c < (S.Source.graph source.now).size → slice_index left.new c ≡ degree (S.Source.graph source.now) c }
 {
-    let mut left = [0; 1024];
     for (c, with) in left[..source.size()].iter_mut().enumerate() {
-        *with = source.degree(c);
+        *with = source.degree(c) as u16;
     }
-    left
 }
 
 // The living number below n with the least in `left`, the lowest of those.
-fn fewest(alive: &[bool], left: &[usize], n: usize) -> Option<usize>
+fn fewest(alive: &[bool], left: &[u16], n: usize) -> Option<usize>
     requires { (n ≤ length alive.now) × (n ≤ length left.now) }
     ensures { MatchOption result ((c : ℕ) → c < n → slice_index_or alive.now c false ≡ false) (λ x. Fewest (λ c. slice_index_or alive.now c false) (λ c. slice_index left.now c) n x) }
 {
@@ -79,7 +77,7 @@ fn fewest(alive: &[bool], left: &[usize], n: usize) -> Option<usize>
 }
 
 // Takes x from the counts: each neighbour of x has one fewer.
-fn take_out<S: Listed>(source: &S, x: usize, left: &mut [usize])
+fn take_out<S: Listed>(source: &S, x: usize, left: &mut [u16])
     requires fits { (S.Source.graph source.now).size ≤ length left.old }
     requires living { (c : ℕ) → c < (S.Source.graph source.now).size → clash (S.Source.graph source.now) x c ≡ true → 0 < slice_index left.old c }
     ensures { (c : ℕ) → c < (S.Source.graph source.now).size → slice_index left.old c ≡ slice_index left.new c + (if clash (S.Source.graph source.now) x c then 1 else 0) }
@@ -95,12 +93,14 @@ fn remove_all<S: Listed>(source: &S, order: &mut [u16]) -> Ordered
     ensures { OrderedIn (S.Source.graph source.now) order.old order.new result.len result.degeneracy }
 {
     let n = source.size();
-    let mut alive = living(source);
-    let mut left = degrees(source);
+    let mut alive = [false; 1024];
+    let mut left = [0u16; 1024];
+    fill_alive(source, &mut alive);
+    fill_degrees(source, &mut left);
     let mut len = 0;
     let mut most = 0;
     while let Some(x) = fewest(&alive, &left, n) {
-        most = most.max(left[x]);
+        most = most.max(usize::from(left[x]));
         // By hand: the loop ends when no vertex lives, and the buffer is the caller's.
         order[len] = x as u16;
         len += 1;

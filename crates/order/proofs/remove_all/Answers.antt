@@ -13,7 +13,7 @@ loop-x-init g c = let lw = g.met.S.Source.lawful c.args.source.now in (
   search rules,
   search rules,
   omega arith,
-  state_none (g.S.Source.graph c.args.source.now) c.living-alive.result c.degrees-left.result (λ k l. c.living-alive.ensures k (omega (arith, lw.small))) (λ k l. c.degrees-left.ensures k (omega (arith, lw.small))),
+  state_none (g.S.Source.graph c.args.source.now) c.fill_alive.new.alive c.fill_degrees.new.left (λ k l. c.fill_alive.ensures k l) (λ k l. c.fill_degrees.ensures k l),
   refl,
 )
 
