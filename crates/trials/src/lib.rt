@@ -36,14 +36,6 @@ struct Task<'a> {
     k: usize,
 }
 
-// Of the 64 colours above `base` those that `place` has left.
-#[derive(Clone, Copy)]
-struct Page {
-    place: usize,
-    base: usize,
-    left: u64,
-}
-
 impl<'a> Task<'a> {
     // Of the 64 colours above `base` those of the places that are joined to `c`.
     fn taken_near(&self, table: &[u16], c: usize, base: usize) -> u64
@@ -106,35 +98,39 @@ impl<'a> Task<'a> {
             None => true,
             Some(place) => {
                 let left = self.open(table, place, 0, used);
-                let page = Page {
-                    place,
-                    base: 0,
-                    left,
-                };
-                self.choose(hints, table, page, used)
+                self.choose(hints, table, place, 0, left, used)
             }
         }
     }
 
-    // Gives the place one of the colours of the page or of those above it, and colours the others.
+    // Gives the place one of the 64 colours above `base` that are left or of those above them, and colours the others.
+    // By hand: place, base and left are passed one by one. A struct of the three lies on the stack, and then the compiler
+    // makes a frame of each colour that is gone on to, where it makes a loop of these calls.
     #[cycle(choose_place)]
-    fn choose(&self, hints: &mut Hints, table: &mut [u16], page: Page, used: usize) -> bool
+    fn choose(
+        &self,
+        hints: &mut Hints,
+        table: &mut [u16],
+        place: usize,
+        base: usize,
+        left: u64,
+        used: usize,
+    ) -> bool
         requires ready { ReadyAt self.now.kernel.now self.now.k used table.old }
-        requires place { page.place < places self.now.kernel.now }
-        requires blank { at table.old page.place ≡ 0 }
-        requires low { page.base ≤ used }
+        requires place { place < places self.now.kernel.now }
+        requires blank { at table.old place ≡ 0 }
+        requires low { base ≤ used }
         requires high { used < places self.now.kernel.now }
-        requires left { LeftAt self.now.kernel.now table.old page.place page.base used self.now.k page.left }
-        ensures { Chosen self.now.kernel.now self.now.k page.place page.base page.left used table.old table.new result }
+        requires left { LeftAt self.now.kernel.now table.old place base used self.now.k left }
+        ensures { Chosen self.now.kernel.now self.now.k place base left used table.old table.new result }
     {
-        let Page { place, base, left } = page;
         if left == 0 {
             if base + 64 >= self.k || base + 64 > used {
                 return false;
             }
             let base = base + 64;
             let left = self.open(table, place, base, used);
-            return self.choose(hints, table, Page { place, base, left }, used);
+            return self.choose(hints, table, place, base, left, used);
         }
         let j = lowest(left);
         let d = base + j + 1;
@@ -146,7 +142,7 @@ impl<'a> Task<'a> {
         hints.forget(place, d);
         table[place] = 0;
         let left = without(left, j);
-        self.choose(hints, table, Page { place, base, left }, used)
+        self.choose(hints, table, place, base, left, used)
     }
 }
 

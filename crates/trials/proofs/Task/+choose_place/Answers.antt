@@ -10,7 +10,7 @@ use Rattle.trials.proofs.Task.+choose_place.Goals.{choose-then-base-self-via-the
 
 pub choose-returns-then-base-self : goal.choose-returns-then-base-self
 choose-returns-then-base-self t c =
-    stuck_last (places c.args.self.now.kernel.now) (joined c.args.self.now.kernel.now) c.args.self.now.k c.args.page.place c.args.page.base c.args.page.left (min c.args.self.now.k (c.args.used + 1)) c.args.table.now c.if-left-eq0.true
+    stuck_last (places c.args.self.now.kernel.now) (joined c.args.self.now.kernel.now) c.args.self.now.k c.args.place c.args.base c.args.left (min c.args.self.now.k (c.args.used + 1)) c.args.table.now c.if-left-eq0.true
     (elim c.then-base-self.branch [
       | choose-then-base-self-via-then-base-self w ↦ omega (arith, w.if-base-self.true)
       | choose-then-base-self-via-else-base-self+then-base-used w ↦ omega (arith, w.if-base-used.true)
@@ -18,14 +18,14 @@ choose-returns-then-base-self t c =
 
 pub choose-returns-then-left-eq0 : goal.choose-returns-then-left-eq0
 choose-returns-then-left-eq0 t c =
-    chosen_page (places c.args.self.now.kernel.now) (joined c.args.self.now.kernel.now) c.args.self.now.k c.args.page.place c.args.page.base c.args.page.left c.open-left.result (min c.args.self.now.k (c.args.used + 1)) c.args.table.now c.choose.new.table c.choose.result c.requires.place c.if-left-eq0.true c.open-left.ensures c.choose.ensures
+    chosen_page (places c.args.self.now.kernel.now) (joined c.args.self.now.kernel.now) c.args.self.now.k c.args.place c.args.base c.args.left c.open-left.result (min c.args.self.now.k (c.args.used + 1)) c.args.table.now c.choose.new.table c.choose.result c.requires.place c.if-left-eq0.true c.open-left.ensures c.choose.ensures
 
 pub choose-returns : goal.choose-returns
 choose-returns t c =
     let q = c.args.self.now.kernel.now in
     let k = c.args.self.now.k in
-    let p = c.args.page.place in
-    let base = c.args.page.base in
+    let p = c.args.place in
+    let base = c.args.base in
     let j = c.lowest-j.result in
     let d : ℕ = base + j + 1 in
     let top : ℕ = min k (c.args.used + 1) in
@@ -34,17 +34,17 @@ choose-returns t c =
     let rest = c.without-left.result in
     let s = c.if-place.ensures in
     let back : set c.place.new.table p 0 ≡ old = ap (λ (v : List ℕ). set v p 0) s.same ∙ put_undone old p d c.requires.blank in
-    chosen_next (places q) (joined q) k p base c.args.page.left rest j top old after c.choose-2.result (no_put (places q) (joined q) k p d old c.place.new.table (omega (arith, c.requires.ready.long, c.requires.place)) s) c.without-left.ensures.members
+    chosen_next (places q) (joined q) k p base c.args.left rest j top old after c.choose-2.result (no_put (places q) (joined q) k p d old c.place.new.table (omega (arith, c.requires.ready.long, c.requires.place)) s) c.without-left.ensures.members
     (subst (λ (v : List ℕ). Chosen q k p base rest c.args.used v after c.choose-2.result) back c.choose-2.ensures)
 
 pub choose-place-requires : goal.choose-place-requires
 choose-place-requires t c =
     let q = c.args.self.now.kernel.now in
     let k = c.args.self.now.k in
-    let p = c.args.page.place in
+    let p = c.args.place in
     let used = c.args.used in
     let j = c.lowest-j.result in
-    let d : ℕ = c.args.page.base + j + 1 in
+    let d : ℕ = c.args.base + j + 1 in
     let old = c.args.table.now in
     let m = c.lowest-j.ensures.member in
     let hi = c.requires.left.high j m in
@@ -56,14 +56,14 @@ choose-place-requires t c =
 pub choose-choose-requires-2 : goal.choose-choose-requires-2
 choose-choose-requires-2 t c =
     let q = c.args.self.now.kernel.now in
-    let p = c.args.page.place in
+    let p = c.args.place in
     let j = c.lowest-j.result in
-    let d : ℕ = c.args.page.base + j + 1 in
+    let d : ℕ = c.args.base + j + 1 in
     let old = c.args.table.now in
     let s = c.if-place.ensures in
     let back : set c.place.new.table p 0 ≡ old = ap (λ (v : List ℕ). set v p 0) s.same ∙ put_undone old p d c.requires.blank in
     let k = c.args.self.now.k in
-    let base = c.args.page.base in
+    let base = c.args.base in
     let used = c.args.used in
     let top : ℕ = min k (used + 1) in
     let rest = c.without-left.result in
@@ -79,7 +79,7 @@ choose-choose-requires-2 t c =
               c.requires.low,
               (
                 c.requires.high,
-                subst (λ (v : List ℕ). LeftAt q v p base used k rest) (sym back) (left_fewer (places q) (joined q) old p base top c.args.page.left rest j c.requires.left c.without-left.ensures.members),
+                subst (λ (v : List ℕ). LeftAt q v p base used k rest) (sym back) (left_fewer (places q) (joined q) old p base top c.args.left rest j c.requires.left c.without-left.ensures.members),
               ),
             ),
           ),
@@ -124,7 +124,7 @@ place-returns-in-Some t c =
 pub choose-returns-then-place : goal.choose-returns-then-place
 choose-returns-then-place t c =
     let q = c.args.self.now.kernel.now in
-    filled_back (places q) (joined q) c.args.self.now.k c.args.page.place (c.args.page.base + c.lowest-j.result + 1) c.args.table.now c.place.new.table c.requires.place c.if-place.ensures
+    filled_back (places q) (joined q) c.args.self.now.k c.args.place (c.args.base + c.lowest-j.result + 1) c.args.table.now c.place.new.table c.requires.place c.if-place.ensures
 
 pub place-returns-in-None : goal.place-returns-in-None
 place-returns-in-None t c =
