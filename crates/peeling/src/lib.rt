@@ -76,14 +76,21 @@ fn drain<T, P: Peeled<T>>(
     tail
 }
 
-// Whether n items with `room` marks fit buffers of these lengths.
-fn check(n: usize, room: usize, living: usize, marks: usize, taken: usize) -> Result<(), Refusal>
-    ensures { MatchResult result (λ _. Fits n room living marks taken) (IsTooLarge n room living marks taken) }
+// Whether the items and their marks fit buffers of these lengths.
+fn check<T, P: Peeled<T>>(
+    pool: &P,
+    list: &[T],
+    living: usize,
+    marks: usize,
+    taken: usize,
+) -> Result<(), Refusal>
+    ensures { MatchResult result (λ _. Fits (P.Peeled.items pool.now list.now) (P.Peeled.room pool.now list.now) living marks taken) (IsTooLarge (P.Peeled.items pool.now list.now) (P.Peeled.room pool.now list.now) living marks taken) }
 {
+    let n = pool.item_count(list);
     if n > MOST {
         return Err(Refusal::TooLarge);
     }
-    if living < n || marks < room || taken < n {
+    if living < n || marks < pool.mark_count(list) || taken < n {
         return Err(Refusal::ShortBuffer);
     }
     Ok(())
@@ -97,20 +104,17 @@ fn prepare<T, P: Peeled<T>>(
     living: &[u8],
     marks: &mut [u8],
     counts: &mut [u16],
-    taken: usize,
 ) -> Result<(), Refusal>
     requires room { 33792 ≤ length table.old }
     requires counted { 16384 ≤ length counts.old }
+    requires fits { Fits (P.Peeled.items pool.now list.now) (P.Peeled.room pool.now list.now) (length living.now) (length marks.old) 16384 }
     ensures ready { MatchResult result (λ _. P.Peeled.indexed pool.now list.now table.new × Counted (P.Peeled.support pool.now list.now) (P.Peeled.items pool.now list.now) living.now counts.new × Wiped (P.Peeled.room pool.now list.now) marks.old marks.new) (λ _. marks.new ≡ marks.old) }
-    ensures refused { MatchResult result (λ _. Fits (P.Peeled.items pool.now list.now) (P.Peeled.room pool.now list.now) (length living.now) (length marks.old) taken × P.Peeled.proper pool.now list.now) (λ x. PeelRefused (P.Peeled.items pool.now list.now) (P.Peeled.room pool.now list.now) (P.Peeled.proper pool.now list.now) (length living.now) (length marks.old) taken x) }
+    ensures refused { MatchResult result (λ _. P.Peeled.proper pool.now list.now) (λ x. (x ≡ Refusal.Unordered) × (P.Peeled.proper pool.now list.now → ⊥)) }
 {
-    let n = pool.item_count(list);
-    let room = pool.mark_count(list);
-    check(n, room, living.len(), marks.len(), taken)?;
     if !pool.index(list, table) {
         return Err(Refusal::Unordered);
     }
-    wipe(marks, room);
+    wipe(marks, pool.mark_count(list));
     count_all(pool, list, table, living, marks, counts);
     Ok(())
 }
@@ -128,17 +132,10 @@ pub fn peel<T, P: Peeled<T>>(
     ensures cases { MatchResult result (λ len. PeeledIn (P.Peeled.support pool.now list.now) (P.Peeled.items pool.now list.now) least living.old living.new taken.old taken.new len × Wiped (P.Peeled.room pool.now list.now) marks.old marks.new) (λ _. (living.new ≡ living.old) × (marks.new ≡ marks.old) × (taken.new ≡ taken.old)) }
     ensures refused { MatchResult result (λ _. Fits (P.Peeled.items pool.now list.now) (P.Peeled.room pool.now list.now) (length living.old) (length marks.old) (length taken.old) × P.Peeled.proper pool.now list.now) (λ x. PeelRefused (P.Peeled.items pool.now list.now) (P.Peeled.room pool.now list.now) (P.Peeled.proper pool.now list.now) (length living.old) (length marks.old) (length taken.old) x) }
 {
+    check(pool, list, living.len(), marks.len(), taken.len())?;
     let mut table = [0u16; 33792];
     let mut counts = [0u16; 16384];
-    prepare(
-        pool,
-        list,
-        &mut table,
-        living,
-        marks,
-        &mut counts,
-        taken.len(),
-    )?;
+    prepare(pool, list, &mut table, living, marks, &mut counts)?;
     let mut out = [0u16; 16384];
     Ok(drain(
         pool,
@@ -193,9 +190,10 @@ pub fn deepest<T, P: Peeled<T>>(
     ensures cases { MatchResult result (λ k. DeepestIn (P.Peeled.support pool.now list.now) (P.Peeled.items pool.now list.now) living.old living.new k × Wiped (P.Peeled.room pool.now list.now) marks.old marks.new) (λ _. (living.new ≡ living.old) × (marks.new ≡ marks.old)) }
     ensures refused { MatchResult result (λ _. Fits (P.Peeled.items pool.now list.now) (P.Peeled.room pool.now list.now) (length living.old) (length marks.old) 16384 × P.Peeled.proper pool.now list.now) (λ x. PeelRefused (P.Peeled.items pool.now list.now) (P.Peeled.room pool.now list.now) (P.Peeled.proper pool.now list.now) (length living.old) (length marks.old) 16384 x) }
 {
+    check(pool, list, living.len(), marks.len(), MOST)?;
     let mut table = [0u16; 33792];
     let mut counts = [0u16; 16384];
-    prepare(pool, list, &mut table, living, marks, &mut counts, MOST)?;
+    prepare(pool, list, &mut table, living, marks, &mut counts)?;
     let mut taken = [0u16; 16384];
     let mut out = [0u16; 16384];
     Ok(descend(

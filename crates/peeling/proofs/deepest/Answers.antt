@@ -4,7 +4,7 @@ use Rattle.peeling.proofs.deepest.Goals as goal
 
 pub descend-requires : goal.descend-requires
 descend-requires g c =
-    let f = c.in_ok-prepare.ensures.refused.0 in
+    let f = c.in_ok-check.ensures in
     let r = c.in_ok-prepare.ensures.ready in
     record {
       ready = r.0;
@@ -18,5 +18,5 @@ returns g c =
     let r = c.in_ok-prepare.ensures.ready in
     record {
       cases = (c.descend.ensures.deepest, λ k. c.descend.ensures.same k ∙ r.2 k);
-      refused = c.in_ok-prepare.ensures.refused;
+      refused = (c.in_ok-check.ensures, c.in_ok-prepare.ensures.refused);
     }

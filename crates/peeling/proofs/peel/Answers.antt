@@ -4,7 +4,7 @@ use Rattle.peeling.proofs.peel.Goals as goal
 
 pub drain-requires : goal.drain-requires
 drain-requires g c =
-    let f = c.in_ok-prepare.ensures.refused.0 in
+    let f = c.in_ok-check.ensures in
     let r = c.in_ok-prepare.ensures.ready in
     record {
       ready = r.0;
@@ -18,5 +18,5 @@ returns g c =
     let r = c.in_ok-prepare.ensures.ready in
     record {
       cases = (c.drain.ensures.peeled, λ k. c.drain.ensures.same k ∙ r.2 k);
-      refused = c.in_ok-prepare.ensures.refused;
+      refused = (c.in_ok-check.ensures, c.in_ok-prepare.ensures.refused);
     }
