@@ -27,7 +27,7 @@ impl Progress {
         let mut table = [0u16; 64];
         table[..len].copy_from_slice(self.block.as_slice());
         let new = climb_step(source, bound, self.order.as_slice(), at, &mut table, len)?;
-        self.block = front(table, new);
+        self.block = front(&table, new);
         self.floor = new;
         self.climbed = climbed + 1;
         self.standing = standing_with(at);

@@ -20,7 +20,7 @@ impl Progress {
         let mut order = [0u16; 1024];
         let mut drives = self.drives;
         let planned = plan(source, &mut order, &mut drives)?;
-        self.order = front(order, planned.len);
+        self.order = front(&order, planned.len);
         self.drives = drives;
         self.climbed = 0;
         self.held = planned.len;

@@ -25,7 +25,7 @@ impl Progress {
         let places = list_living(&living, source.size()).ok_or(Refusal::TooWide)?;
         self.kernel.draw(source, places.as_slice())?;
         self.places = places;
-        self.taken = front(taken, len);
+        self.taken = front(&taken, len);
         self.standing = Standing::Pulled;
         Ok(())
     }
