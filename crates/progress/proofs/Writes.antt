@@ -35,8 +35,8 @@ pub rowed_none : (col : ℕ → ℕ) (before : List Row) → Rowed col 0 before 
 unfolding rows
 rowed_none col before = record { front = refl; rest = refl }
 
-pub rowed_more : (col : ℕ → ℕ) (n : ℕ) (before after : List Row) → n < length after → Rowed col n before after → Rowed col (n + 1) before (set after n (row n (col n)))
-rowed_more col n before after l x = record {
+pub rowed_more : (col : ℕ → ℕ) (n k : ℕ) (before after : List Row) → k ≡ n → n < length after → Rowed col n before after → Rowed col (n + 1) before (set after n (row n (col k)))
+rowed_more col n k before after e l x = rw e (record {
   front = take_more_set after n (row n (col n)) l ∙ ap (λ xs. xs ++ (row n (col n) ∷ [])) x.front ∙ sym (rows_more col n);
   rest = drop-set-lt (n + 1) after n (row n (col n)) (omega arith) ∙ sym (drop-drop 1 n after) ∙ ap (drop 1) x.rest ∙ drop-drop 1 n before;
-}
+})

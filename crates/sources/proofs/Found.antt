@@ -1,11 +1,15 @@
 -- What is found in a row.
-use Rattle.std.proofs.Common.{◌≡◌, ℕ, ◌+◌, ◌-◌, ◌<◌, ◌≤◌, List, length, get_or, drop, Ok, Err, Result, MatchResult, is_ok, sym, ap, ◌∙◌, inl, inr, arith, length-take, length-drop}
+use Rattle.std.proofs.Common.{◌≡◌, ℕ, ◌+◌, ◌-◌, ◌<◌, ◌≤◌, List, length, get_or, drop, Ok, Err, Result, MatchResult, is_ok, sym, ap, ◌∙◌, inl, inr, refl, arith, length-take, length-drop}
 use Rattle.std.proofs.lemmas.Bool.{cases_lt}
-use Rattle.std.proofs.lemmas.List.{get_or-take, get_or-drop}
+use Rattle.std.proofs.lemmas.List.{get_or-take, get_or-drop, get_or_read_under}
 use Rattle.rows.specs.Rows.{Sound, rows, in_row}
 use Rattle.rows.proofs.Among.{among_found, among_false}
 use Rattle.rows.proofs.Lawful.{row_stands, row_rises}
 use Rattle.sources.specs.Row.{row_of}
+
+-- what is read at k, where k is i
+pub row_read : (xs : List ℕ) (k i v : ℕ) → v ≡ get_or xs k v → k < length xs → k ≡ i → v ≡ get_or xs i 0
+row_read xs k i v e l h = get_or_read_under xs k (length xs) v 0 e l refl ∙ ap (λ j. get_or xs j 0) h
 
 module _ (os ns : List ℕ) (s : Sound os ns) (c : ℕ) (l : c < rows os) where
   pub row_length : length (row_of os ns c) ≡ get_or os (c + 1) 0 - get_or os c 0

@@ -1,6 +1,6 @@
 -- The masks and degrees of the code are those of the definition.
-use Rattle.std.proofs.Common.{◌≡◌, ℕ, ◌/◌, ◌^◌, ◌<◌, ◌≤◌, Bool, not, ◌&&◌, ltb, List, length, map, take, ap, ◌∙◌, arith}
-use Rattle.std.proofs.lemmas.List.{length-map, length-take-le}
+use Rattle.std.proofs.Common.{◌≡◌, ℕ, ◌+◌, ◌/◌, ◌^◌, ◌<◌, ◌≤◌, Bool, not, ◌&&◌, ltb, List, [], ◌∷◌, ◌++◌, length, get_or, map, take, sym, ap, ◌∙◌, arith}
+use Rattle.std.proofs.lemmas.List.{length-map, length-take-le, map_more}
 use Rattle.finite.specs.Masks.{bit}
 use Rattle.finite.proofs.Masks.{mask_is}
 use Rattle.grids.specs.Classes.{classes}
@@ -31,6 +31,11 @@ upper_is p m half count count' all inside w l ec ed eh ea ei members =
 -- there is room for one more
 pub tops_room : (f : ℕ → ℕ) (cs ts : List ℕ) (i : ℕ) → ts ≡ map f (take i cs) → i < length cs → length cs ≤ 64 → length ts < 64
 tops_room f cs ts i e l h = omega (arith, ap length e, length-map (take i cs) f, length-take-le i cs (omega arith))
+
+-- the largest of one class more
+pub tops_more : (f : ℕ → ℕ) (cs : List ℕ) (i : ℕ) (ts new : List ℕ) (t : ℕ) → i < length cs → ts ≡ map f (take i cs) → new ≡ ts ++ t ∷ [] → t ≡ f (get_or cs i 0) → new ≡ map f (take (i + 1) cs)
+tops_more f cs i ts new t l e n is =
+    n ∙ ap (λ xs. xs ++ t ∷ []) e ∙ ap (λ x. map f (take i cs) ++ x ∷ []) is ∙ sym (map_more f cs i 0 l)
 
 -- the largest clique degree of each class
 pub tops_are : (answer : Picture → ℕ → ℕ) (p : Picture) (own other : ℕ) (cs ts : List ℕ) → cs ≡ classes p.rows own (places p) → ts ≡ map (top (clique_degree answer p other)) cs → (s : ℕ) → at_least ts s ≡ part_reaching answer p own other s

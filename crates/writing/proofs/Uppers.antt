@@ -138,6 +138,6 @@ all_written n m es out new k e a =
     a ∙ ap (λ x. x ++ 101 ∷ 10 ∷ []) (e ∙ ap (λ (i : ℕ). row 115 n i ++ flat_map edge_row es) k) ∙ simp append_assoc
 
 -- the size line and all rows
-pub all_rows : (g : Graph) (a n m : ℕ) (none start out : List ℕ) → none ≡ [] → start ≡ none ++ row 115 n m → out ≡ start ++ flat_map edge_row (edges_below g a) → a ≡ g.size → out ≡ row 115 n m ++ flat_map edge_row (edge_list g)
-all_rows g a n m none start out e f h z =
-    h ∙ ap (λ x. x ++ flat_map edge_row (edges_below g a)) (f ∙ ap (λ x. x ++ row 115 n m) e) ∙ ap (λ (i : ℕ). row 115 n m ++ flat_map edge_row (edges_below g i)) z
+pub all_rows : (g : Graph) (a k n m : ℕ) (none start out : List ℕ) → none ≡ [] → start ≡ none ++ row 115 k m → k ≡ n → out ≡ start ++ flat_map edge_row (edges_below g a) → a ≡ g.size → out ≡ row 115 n m ++ flat_map edge_row (edge_list g)
+all_rows g a k n m none start out e f s h z =
+    h ∙ ap (λ x. x ++ flat_map edge_row (edges_below g a)) (f ∙ ap (λ x. x ++ row 115 k m) e ∙ ap (λ (i : ℕ). row 115 i m) s) ∙ ap (λ (i : ℕ). row 115 n m ++ flat_map edge_row (edges_below g i)) z

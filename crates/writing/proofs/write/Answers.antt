@@ -1,6 +1,5 @@
-use Rattle.std.proofs.Common.{◌≡◌, ℕ, ◌/◌, ◌++◌, length, vec_items, ap, ◌∙◌, arith}
+use Rattle.std.proofs.Common.{◌≡◌, length, vec_items, ap, arith}
 use Rattle.graph.specs.Edges.{edge_list}
-use Rattle.grammar.specs.Sheet.{row}
 use Rattle.rows.specs.Rows.{listed, rows}
 use Rattle.rows.proofs.Props.{sound_of}
 use Rattle.forms.proofs.Forms.{edges_count}
@@ -20,8 +19,6 @@ returns c =
     let ns = vec_items c.args.form.now.neighbours in
     let g = listed os ns in
     let k = edges_count os ns (sound_of c.args.form.now.sound) in
-    let e = ap length c.neighbours.ensures in
-    let m : length c.neighbours.result.now / 2 ≡ length (edge_list g) = omega arith in
     let z : c.loop-a.a ≡ rows os = omega arith in
-    let w = c.in_ok-write_line.ensures ∙ ap (λ (n : ℕ). c.new-out.result.items ++ row 115 n (length c.neighbours.result.now / 2)) c.size-n.ensures in
-    all_written (rows os) (length c.neighbours.result.now / 2) (edge_list g) _ _ m (all_rows g c.loop-a.a (rows os) (length c.neighbours.result.now / 2) _ _ _ c.new-out.ensures.items w c.loop-a.invariant z) c.in_ok-extend_from_slice.ensures.items
+    let t = all_rows g c.loop-a.a _ (rows os) _ _ _ _ c.new-out.ensures.items c.in_ok-write_line.ensures c.size-n.ensures c.loop-a.invariant z in
+    all_written (rows os) _ (edge_list g) _ _ (omega (arith, k, ap length c.neighbours.ensures)) t c.in_ok-extend_from_slice.ensures.items

@@ -30,8 +30,8 @@ loop-i-preserved-in-Some-fit c =
     let s = c.in-Some.ensures.steps in
     let f = rw c.deref.ensures.0 at c.in-Some-fit.ensures in
     let v = c.deref_mut.ensures.value in
-    rw (items-with_items c.loop-i.made (set c.deref_mut.result.now c.in-Some-fit.c _) (length-set _ _ _ ∙ ap length v), v)
-    (stands_at _ _ _ _ _ _ c.loop-i.invariant s.0 s.1 s.2 _ s.3 _ c.row.ensures _ _ (ap (bit_or (get_or c.loop-i.made.items c.in-Some-fit.c 0)) (one_at c.in-Some.i s.0)) f.0 f.1)
+    rw (items-with_items c.loop-i.made (set c.deref_mut.result.now _ _) (length-set _ _ _ ∙ ap length v), v)
+    (stands_at _ _ _ _ _ _ c.loop-i.invariant s.0 s.1 s.2 _ s.3 _ c.row.ensures _ _ (ap (bit_or _) (one_at c.in-Some.i s.0)) (omega (arith, f.0)) (omega (arith, f.1)))
 
 pub returns : goal.returns
 returns c =

@@ -17,8 +17,8 @@ loop-r-preserved c =
     let l = length-take-le (c.reach.result + 1) xs (omega (arith, c.reach.ensures.bound)) in
     let e = get_or-take (c.reach.result + 1) xs r 0 (omega arith) in
     elim c.if-s-reaching.branch [
-      | then-s-reaching w ↦ w.best-is ∙ pair_yes (at_least c.args.us.now c.args.s) c.args.s (λ r. get_or xs r 0) r (omega arith) (omega (arith, w.if-s-reaching.true))
-      | else-s-reaching w ↦ w.best-is ∙ c.loop-r.invariant ∙ pair_no (at_least c.args.us.now c.args.s) c.args.s (λ r. get_or xs r 0) r (omega (arith, w.if-s-reaching.false))
+      | then-s-reaching w ↦ w.best-is ∙ pair_yes (at_least c.args.us.now c.args.s) c.args.s (λ r. get_or xs r 0) r (omega arith) (grind (arith, e, w.if-s-reaching.true))
+      | else-s-reaching w ↦ w.best-is ∙ c.loop-r.invariant ∙ pair_no (at_least c.args.us.now c.args.s) c.args.s (λ r. get_or xs r 0) r (grind (arith, e, w.if-s-reaching.false))
     ]
 
 pub returns : goal.returns

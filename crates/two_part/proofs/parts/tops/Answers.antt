@@ -1,8 +1,8 @@
-use Rattle.std.proofs.Common.{◌<◌, ◌∷◌, ◌++◌, [], List, ℕ, length, map, take, sym, ap, ◌∙◌, arith}
-use Rattle.std.proofs.lemmas.List.{map_more, take_all}
+use Rattle.std.proofs.Common.{◌<◌, length, map, ap, ◌∙◌, arith}
+use Rattle.std.proofs.lemmas.List.{take_all}
 use Rattle.grids.specs.Largest.{top}
 use Rattle.two_part.specs.TwoPart.{clique_degree}
-use Rattle.two_part.proofs.Values.{tops_are, tops_room}
+use Rattle.two_part.proofs.Values.{tops_are, tops_room, tops_more}
 use Rattle.two_part.proofs.parts.tops.Goals as goal
 
 pub push-requires : goal.push-requires
@@ -15,7 +15,7 @@ loop-class-preserved g c =
     let degree = clique_degree (g.B.Bound.answer c.args.bound.now) c.args.p.now c.args.other in
     let xs = c.deref-class-items.result.now in
     let i = c.loop-class.class-index in
-    c.push.ensures.items ∙ ap (λ (ts : List ℕ). ts ++ c.top.result ∷ []) c.loop-class.invariant ∙ ap (λ (t : ℕ). map (top degree) (take i xs) ++ t ∷ []) c.top.ensures ∙ sym (map_more (top degree) xs i 0 c.loop-class-test.true)
+    tops_more (top degree) xs i _ _ _ c.loop-class-test.true c.loop-class.invariant c.push.ensures.items (omega (arith, c.top.ensures))
 
 pub returns : goal.returns
 returns g c =

@@ -37,7 +37,7 @@ found g c =
     turn x y t e = rw e (grind (arith, cases_Bool x, cases_Bool y))
 
 pub returns-clause-value : goal.returns-clause-value
-returns-clause-value g c = found g c
+returns-clause-value g c = omega (arith, found g c)
 
 pub returns-clause-bound : goal.returns-clause-bound
 returns-clause-bound g c =

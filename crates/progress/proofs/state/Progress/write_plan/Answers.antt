@@ -8,4 +8,4 @@ loop-c-init g c = rowed_none _ _
 
 pub loop-c-preserved : goal.loop-c-preserved
 loop-c-preserved g c =
-    rowed_more (paint c.args.self.now.drives) c.loop-c.c _ c.loop-c.row-items (omega (arith, c.loop-c.auto.row-items, c.loop-c-test.true)) c.loop-c.invariant
+    rowed_more (paint c.args.self.now.drives) c.loop-c.c _ _ c.loop-c.row-items (omega arith) (omega (arith, c.loop-c.auto.row-items, c.loop-c-test.true)) c.loop-c.invariant
