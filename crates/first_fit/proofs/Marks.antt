@@ -24,20 +24,20 @@ marks_none g x paint n =
       done = λ b e l. absurd (omega arith);
     }
 
-pub marks_yes : (g : Graph) (x : ℕ) (paint : List ℕ) (n i j b d : ℕ) (taken : List Bool) → Marks g x paint n i taken → (b < g.size) × (clash g x b ≡ true) × (count (clash g x) b ≡ i) → j ≡ i + 1 → d ≡ get_or paint b 0 → d < n → Marks g x paint n j (set taken d true)
-marks_yes g x paint n i j b d taken s r up is small =
+pub marks_yes : (g : Graph) (x : ℕ) (paint : List ℕ) (n i j b d : ℕ) (t : Bool) (taken : List Bool) → Marks g x paint n i taken → (b < g.size) × (clash g x b ≡ true) × (count (clash g x) b ≡ i) → j ≡ i + 1 → d ≡ get_or paint b 0 → d < n → t ≡ true → Marks g x paint n j (set taken d t)
+marks_yes g x paint n i j b d t taken s r up is small sure =
     let lt : d < length taken = omega (arith, s.long) in
-    let same = get_or-set_same taken d true false lt in
+    let same = get_or-set_same taken d t false lt ∙ sure in
     record {
       long = simp length-set s.long;
       worn = λ k l e. elim (cases_eq k d) [
         | inl q ↦ (b, r.1, sym is ∙ sym q)
-        | inr ne ↦ s.worn k l (sym (get_or-set_other taken d k true false ne) ∙ e)
+        | inr ne ↦ s.worn k l (sym (get_or-set_other taken d k t false ne) ∙ e)
       ];
       done = λ c e l m. elim (cases_eq (get_or paint c 0) d) [
-        | inl q ↦ ap (λ v. get_or (set taken d true) v false) q ∙ same
+        | inl q ↦ ap (λ v. get_or (set taken d t) v false) q ∙ same
         | inr ne ↦ let other : count (clash g x) c ≡ i → ⊥ = λ z. ne (ap (λ v. get_or paint v 0) (rank_one (clash g x) c b e r.1 (z ∙ sym r.2)) ∙ sym is) in
-            get_or-set_other taken d (get_or paint c 0) true false ne ∙ s.done c e (omega arith) m
+            get_or-set_other taken d (get_or paint c 0) t false ne ∙ s.done c e (omega arith) m
       ];
     }
 

@@ -1,4 +1,4 @@
-use Rattle.std.proofs.Common.{◌≡◌, ◌+◌, ◌≤◌, ◌++◌, length, get_or, set, take, drop, sym, ap, ◌∙◌, subst, cond, arith, rules}
+use Rattle.std.proofs.Common.{◌≡◌, ◌+◌, ◌≤◌, ◌++◌, length, get_or, take, drop, sym, ap, ◌∙◌, subst, cond, arith, rules}
 use Rattle.std.proofs.lemmas.Bool.{lt-ltb}
 use Rattle.std.proofs.lemmas.List.{drop_at, length-take-le, take_all}
 use Rattle.finite.proofs.Walking.{back_of}
@@ -39,12 +39,12 @@ loop-x-preserved g c =
     let i = length c.next.new.self.iter.rest.now in
     let nx = c.requires.order.each i b.within in
     let f = c.lowest_free.ensures in
-    let r = c.lowest_free.result in
-    let value = subst (λ v. Lowest G (held G) (λ w. get_or c.loop-x.colours w 0) v r) b.is f.value in
-    let painted = painted_more G p i c.loop-x.colours r (g.met.S.Source.lawful c.args.source.now) c.requires.order b.within (omega (arith, c.requires.fits)) (subst (λ v. Painted G p v c.loop-x.colours) b.up c.loop-x.invariant.1) value (omega (arith, f.bound)) in (
+    let colours = c.loop-x.colours in
+    let value = subst (λ v. Lowest G (held G) (λ w. get_or colours w 0) v c.lowest_free.result) b.is f.value in
+    rw b.is (
       b.left,
-      subst (λ v. Painted G p i (set c.loop-x.colours v r)) (sym b.is) painted,
-      subst (λ v. drop G.size (set c.loop-x.colours v r) ≡ drop G.size c.args.colours.now) (sym b.is) (rest_more G.size c.loop-x.colours _ (get_or p i 0) r nx.within c.loop-x.invariant.2),
+      painted_more G p i colours _ (g.met.S.Source.lawful c.args.source.now) c.requires.order b.within (omega (arith, c.requires.fits)) (subst (λ v. Painted G p v colours) b.up c.loop-x.invariant.1) (subst (Lowest G (held G) (λ w. get_or colours w 0) (get_or p i 0)) (omega arith) value) (omega (arith, f.bound)),
+      rest_more G.size colours _ (get_or p i 0) _ nx.within c.loop-x.invariant.2,
     )
 
 pub returns : goal.returns

@@ -1,4 +1,4 @@
-use Rattle.std.proofs.Common.{◌≡◌, ◌&&◌, not, eqb, length, get_or, set, take, refl, sym, ap, ◌∙◌, subst, arith, rules, get_or-set_other}
+use Rattle.std.proofs.Common.{◌≡◌, ◌&&◌, not, eqb, length, get_or, take, refl, sym, ap, ◌∙◌, subst, arith, rules, get_or-set_other}
 use Rattle.std.proofs.lemmas.Bool.{both_ways}
 use Rattle.std.proofs.lemmas.List.{take_all}
 use Rattle.finite.specs.Finite.{has}
@@ -36,11 +36,12 @@ loop-x-preserved g c =
     let b = back_of p c.loop-x.x-iterator.iter.rest.now c.next.new.self.iter.rest.now c.in-Some.x.now c.loop-x.invariant.0 c.in-Some.ensures.steps in
     let i = length c.next.new.self.iter.rest.now in
     let l = b.within in
-    let r = c.lowest_free.result in
-    let value = subst (λ v. Lowest G (held G) (λ w. get_or c.loop-x.colours w 0) v r) b.is c.lowest_free.ensures.value in (
+    let colours = c.loop-x.colours in
+    let value = subst (λ v. Lowest G (held G) (λ w. get_or colours w 0) v c.lowest_free.result) b.is c.lowest_free.ensures.value in
+    rw b.is (
       b.left,
-      (λ tk. subst (λ v. Back G p i c.clear.new.colours (set c.loop-x.colours v r)) (sym b.is) (back_more G p i c.clear.new.colours c.loop-x.colours r (g.met.S.Source.lawful c.args.source.now) tk l (omega (arith, c.requires.listed i l, c.requires.room)) (subst (λ v. Back G p v c.clear.new.colours c.loop-x.colours) b.up (c.loop-x.invariant.1 tk)) value)),
-      (λ v n. get_or-set_other c.loop-x.colours c.in-Some.x.now v r 0 (λ q. both_ways (has p v) n (ap (has p) (q ∙ b.is) ∙ has_at p i l)) ∙ c.loop-x.invariant.2 v n),
+      (λ tk. back_more G p i c.clear.new.colours colours _ (g.met.S.Source.lawful c.args.source.now) tk l (omega (arith, c.requires.listed i l, c.requires.room)) (subst (λ v. Back G p v c.clear.new.colours colours) b.up (c.loop-x.invariant.1 tk)) (subst (Lowest G (held G) (λ w. get_or colours w 0) (get_or p i 0)) (omega arith) value)),
+      (λ v n. get_or-set_other colours (get_or p i 0) v _ 0 (λ q. both_ways (has p v) n (ap (has p) q ∙ has_at p i l)) ∙ c.loop-x.invariant.2 v n),
     )
 
 pub returns : goal.returns

@@ -1,10 +1,11 @@
-use Rattle.std.proofs.Common.{◌<◌, Bool, ◌&&◌, ltb, length, get_or, set, ap, ◌∙◌, arith}
+use Rattle.std.proofs.Common.{ℕ, ◌<◌, Bool, ◌&&◌, ltb, List, length, get_or, set, ap, ◌∙◌, subst, arith}
 use lib.Bits.{bit_or}
 use Rattle.std.proofs.lemmas.List.{length-set}
 use Rattle.arrayvec.proofs.ArrayVecLemmas.{items-with_items}
 use Rattle.finite.specs.Masks.{bit}
 use Rattle.finite.proofs.Masks.{one_at}
-use Rattle.grids.proofs.Walks.{stands_none, stands_all, stands_room, stands_new, stands_at}
+use Rattle.grids.specs.Classes.{classes}
+use Rattle.grids.proofs.Walks.{Stands, stands_none, stands_all, stands_room, stands_new, stands_at}
 use Rattle.bounds.proofs.by_class.classes.Goals as goal
 
 pub loop-i-init : goal.loop-i-init
@@ -23,7 +24,7 @@ pub loop-i-preserved : goal.loop-i-preserved
 loop-i-preserved c =
     let s = c.in-Some.ensures.steps in
     let f = rw c.deref.ensures.0 at c.in-None-fit.ensures in
-    rw c.push.ensures.items (stands_new _ _ _ _ _ _ c.loop-i.invariant s.0 s.1 s.2 _ s.3 _ c.row.ensures _ (one_at c.in-Some.i s.0) f)
+    subst (λ (cs : List ℕ). Stands c.args.p.now.rows c.args.p.now.count (classes c.args.p.now.rows c.args.mask c.args.p.now.count) cs c.next.new.self.rest) (grind (arith, c.push.ensures.items)) (stands_new _ _ _ _ _ _ c.loop-i.invariant s.0 s.1 s.2 _ s.3 _ (c.row.ensures ∙ ap (λ (k : ℕ). get_or c.args.p.now.rows k 0) (omega arith)) _ (one_at c.in-Some.i s.0) f)
 
 pub loop-i-preserved-in-Some-fit : goal.loop-i-preserved-in-Some-fit
 loop-i-preserved-in-Some-fit c =
@@ -31,7 +32,7 @@ loop-i-preserved-in-Some-fit c =
     let f = rw c.deref.ensures.0 at c.in-Some-fit.ensures in
     let v = c.deref_mut.ensures.value in
     rw (items-with_items c.loop-i.made (set c.deref_mut.result.now _ _) (length-set _ _ _ ∙ ap length v), v)
-    (stands_at _ _ _ _ _ _ c.loop-i.invariant s.0 s.1 s.2 _ s.3 _ c.row.ensures _ _ (ap (bit_or _) (one_at c.in-Some.i s.0)) (omega (arith, f.0)) (omega (arith, f.1)))
+    (stands_at _ _ _ _ _ _ c.loop-i.invariant s.0 s.1 s.2 _ s.3 _ (c.row.ensures ∙ ap (λ (k : ℕ). get_or c.args.p.now.rows k 0) (omega arith)) _ _ (ap (bit_or _) (one_at c.in-Some.i s.0)) (omega (arith, f.0)) (omega (arith, f.1)))
 
 pub returns : goal.returns
 returns c =

@@ -18,7 +18,7 @@ returns-in_err-ok g c =
     let i = c.loop-c.c in
     let living = c.args.living.now in
     let l : i < n = omega (arith, length-take-le n living c.requires.lives, c.loop-c-test.true) in
-    let y = alive_yes n living i l (sym (get_or-take n living i 0 l) ∙ c.if-lives-eq1.true) in
+    let y = alive_yes n living i l (omega (arith, get_or-take n living i 0 l, c.if-lives-eq1.true)) in
     let full : length c.loop-c.list.items ≡ g.row.N = search rules in
     let h : g.row.N < count s n = omega (arith, full, ap (λ (xs : List ℕ). length xs) c.loop-c.invariant, length_members s i, count_rise s i n l y) in
     search rules
@@ -32,9 +32,9 @@ loop-c-preserved g c =
     let l : i < n = omega (arith, length-take-le n living c.requires.lives, c.loop-c-test.true) in
     let e = get_or-take n living i 0 l in
     elim c.if-lives-eq1.branch [
-      | then-lives-eq1+in_ok-ok w ↦ let y = alive_yes n living i l (sym e ∙ w.if-lives-eq1.true) in
+      | then-lives-eq1+in_ok-ok w ↦ let y = alive_yes n living i l (omega (arith, e, w.if-lives-eq1.true)) in
           let p : w.try_push.new.self.items ≡ c.loop-c.list.items ++ i ∷ [] = search rules in
           ap (λ v. v.items) w.list-is ∙ p ∙ ap (λ (xs : List ℕ). xs ++ i ∷ []) c.loop-c.invariant ∙ sym (members_yes s i y)
-      | else-lives-eq1 w ↦ let y = alive_no n living i (λ z. w.if-lives-eq1.false (e ∙ z)) in
+      | else-lives-eq1 w ↦ let y = alive_no n living i (λ z. w.if-lives-eq1.false (omega (arith, e, z))) in
           ap (λ v. v.items) w.list-is ∙ c.loop-c.invariant ∙ sym (members_no s i y)
     ]

@@ -1,4 +1,4 @@
-use Rattle.std.proofs.Common.{◌≡◌, ℕ, ◌<◌, sym, ap, ◌∙◌, subst, arith, get_or-take, length-take}
+use Rattle.std.proofs.Common.{◌≡◌, ℕ, ◌<◌, get_or, sym, ap, ◌∙◌, subst, arith, get_or-take, length-take}
 use Rattle.grids.specs.Draws.{Drawn}
 use Rattle.grids.proofs.Draws.{drawn_yes, drawn_no, drawn_row}
 use Rattle.pictures.specs.Pictures.{joined, places}
@@ -11,7 +11,7 @@ loop-j-preserved g c =
     let J = joined c.loop-j.picture in
     let xs = c.args.chosen.now in
     let below : c.loop-j.j < c.args.i = omega (arith, length-take c.args.i xs) in
-    let called = rw (get_or-take c.args.i xs c.loop-j.j 0 below) at c.near.ensures in
+    let called : goal.F-post g c.args.near (get_or xs c.loop-j.j 0) c.near.result = subst (λ (v : ℕ). goal.F-post g c.args.near v c.near.result) (omega (arith, get_or-take c.args.i xs c.loop-j.j 0 below)) c.near.ensures in
     elim c.if-near.branch [
       | then-near w ↦ (
         ap places w.picture-is ∙ w.join.ensures.size ∙ c.loop-j.invariant.0,

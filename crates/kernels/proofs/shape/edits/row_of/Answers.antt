@@ -1,4 +1,4 @@
-use Rattle.std.proofs.Common.{ℕ, ◌+◌, ◌<◌, Bool, sym, ◌∙◌, subst, arith}
+use Rattle.std.proofs.Common.{◌≡◌, ℕ, ◌+◌, ◌<◌, Bool, length, get_or, min, take, sym, subst, arith, length-take, get_or-take}
 use Rattle.kernels.specs.Kernels.{paired}
 use Rattle.placings.proofs.Rows.{Row, row_none, row_yes, row_no}
 use Rattle.kernels.proofs.shape.edits.row_of.Goals as goal
@@ -11,12 +11,19 @@ pub loop-j-preserved : goal.loop-j-preserved
 loop-j-preserved g c =
     let j = c.loop-j.j in
     let C : ℕ → Bool = paired (g.S.Source.graph c.args.source.now) c.args.chosen.now c.args.i in
-    let jl : j < 256 = omega (arith, c.requires.few, c.loop-j-test.true) in
+    let xs = c.args.chosen.now in
+    let long : (n : ℕ) → length (take n xs) ≡ min n (length xs) = λ n. length-take n xs in
+    let front : (n : ℕ) → j < n → get_or (take n xs) j 0 ≡ get_or xs j 0 = λ n h. get_or-take n xs j 0 h in
+    let within : j < length xs = grind (arith, long, c.loop-j-test.true) in
+    let jl : j < 256 = omega (arith, c.requires.few, within) in
     let P = Row C (j + 1) in
     elim c.if-clashes.branch [
-      | then-clashes w ↦ subst P (sym w.row-is) (row_yes C j w.with.result c.loop-j.row jl c.loop-j.invariant (sym c.clashes.ensures ∙ w.if-clashes.true) w.with.ensures)
-      | else-clashes w ↦ subst P (sym w.row-is) (row_no C j c.loop-j.row jl c.loop-j.invariant (sym c.clashes.ensures ∙ w.if-clashes.false))
+      | then-clashes w ↦ subst P (sym w.row-is) (row_yes C j w.with.result c.loop-j.row jl c.loop-j.invariant (grind (arith, front, long, c.loop-j-test.true, w.if-clashes.true, c.clashes.ensures)) w.with.ensures)
+      | else-clashes w ↦ subst P (sym w.row-is) (row_no C j c.loop-j.row jl c.loop-j.invariant (grind (arith, front, long, c.loop-j-test.true, w.if-clashes.false, c.clashes.ensures)))
     ]
 
 pub returns : goal.returns
-returns g c j l = c.loop-j.invariant.done j (omega arith)
+returns g c j l =
+    let xs = c.args.chosen.now in
+    let long : (n : ℕ) → length (take n xs) ≡ min n (length xs) = λ n. length-take n xs in
+    c.loop-j.invariant.done j (grind (arith, long, c.loop-j-test.false))
