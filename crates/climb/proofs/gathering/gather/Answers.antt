@@ -1,5 +1,6 @@
-use Rattle.std.proofs.Common.{◌≡◌, length, refl, sym, ◌∙◌, arith}
+use Rattle.std.proofs.Common.{◌≡◌, ℕ, [], ◌∷◌, ◌++◌, length, refl, sym, ◌∙◌, subst, arith}
 use Rattle.std.proofs.lemmas.Bool.{eqb-true}
+use Rattle.climbing.specs.Climbs.{backward}
 use Rattle.climbing.proofs.Blocks.{gather_yes, gather_no, gather_full, gather_all}
 use Rattle.climb.proofs.gathering.gather.Goals as goal
 
@@ -8,7 +9,7 @@ loop-c-init g c t is = rw (c.new-found.ensures, c.into_iter-c-iterator.ensures.i
 
 pub loop-c-preserved-then-passes : goal.loop-c-preserved-then-passes
 loop-c-preserved-then-passes g c t is =
-    rw c.push.ensures.items (gather_yes t _ _ _ _ _ c.in-Some.ensures.steps (c.loop-c.invariant t is) (sym (is _ _ c.passes.ensures) ∙ c.if-passes.true))
+    rw c.push.ensures.items (subst (λ (v : ℕ). backward t c.args.xs.now ≡ (c.loop-c.found.items ++ v ∷ []) ++ backward t c.next.new.self.iter.rest.now) (omega arith) (gather_yes t _ _ _ _ _ c.in-Some.ensures.steps (c.loop-c.invariant t is) (sym (is _ _ c.passes.ensures) ∙ c.if-passes.true)))
 
 pub loop-c-preserved : goal.loop-c-preserved
 loop-c-preserved g c t is =

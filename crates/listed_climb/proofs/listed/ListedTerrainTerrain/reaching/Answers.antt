@@ -1,4 +1,4 @@
-use Rattle.std.proofs.Common.{rules}
+use Rattle.std.proofs.Common.{ltb, ap, ◌∙◌, arith, rules}
 use Rattle.listed_climb.proofs.listed.ListedTerrainTerrain.reaching.Goals as goal
 
 pub returns : goal.returns
@@ -7,6 +7,6 @@ returns g c =
       picture = c.unwrap-picture.result;
       mask = c.below.result;
       draws = search rules;
-      full = c.below.ensures;
+      full = λ j. c.below.ensures j ∙ ap (ltb j) (omega arith);
       found = c.at_least.ensures;
     }
