@@ -1,4 +1,5 @@
-use Rattle.std.proofs.Common.{refl}
+use Rattle.std.proofs.Common.{refl, ap, ◌∙◌, rules}
+use Rattle.calls.specs.Fair.{remaining}
 use Rattle.calls.specs.declared.call.Call.TheVariants.{Hide, Show, Order, Climb, Try}
 use Rattle.running.proofs.Matches.{served}
 use Rattle.running.proofs.strings.answer.Goals as goal
@@ -25,5 +26,5 @@ returns-in-Try g c =
 
 pub returns-in-Climb : goal.returns-in-Climb
 returns-in-Climb g c =
-    let s = served g.S.Source.graph c.args.planner.now c.climb.new.self c.args.spare.now c.args.call Climb c.into-in-Climb.result _ c.in-Climb.is c.into-in-Climb.ensures refl c.requires c.climb.ensures in
+    let s = served g.S.Source.graph c.args.planner.now c.climb.new.self c.args.spare.now c.args.call Climb c.into-in-Climb.result _ c.in-Climb.is (c.into-in-Climb.ensures ∙ ap remaining (search rules)) refl c.requires c.climb.ensures in
     record { serves = s.0; matched = s.1 }

@@ -14,4 +14,4 @@ pub returns : goal.returns
 returns c =
     let n = sound_of c.args.form.now.sound in
     let e = c.as_slice.ensures.value ∙ c.in_ok-text.ensures in
-    turned c.load.result c.map_err.result c.load.ensures (λ f w. rereads _ _ c.as_slice.result.now _ _ n e w) (λ f x u l. let q : x ≡ f.refusal = search rules in q ∙ rereads_not _ _ c.as_slice.result.now f n e u) c.map_err.ensures.cases
+    turned c.load.result c.map_err.result c.load.ensures (λ f w. rereads _ _ c.as_slice.result.now _ _ n e w) (λ f x u l. let k = rereads_not _ _ c.as_slice.result.now f n e u in search (rules, k)) c.map_err.ensures.cases
